@@ -234,14 +234,23 @@ class Hostile(Case):
             ran = run("--schema", path)
             self.holds(name, (ran.status, ran.err[:31]) == (2, b"fbcheck: no root table; tables:"), ran.err)
 
+    def test_the_memory_of_a_load(self):
+        """A schema file takes at most ten times its length and 5 MiB, whatever it has."""
+        for shape in HOSTILE.FILES:
+            for size in 2**20, 2400 * 2**10:
+                made = shape.made(size)
+                memory = HOSTILE.once(["--schema", file_of("shape.bfbs", made)], b"").memory
+                self.holds(f"{shape.name} of {size} bytes", memory <= 10 * len(made) / 2**20 + 5, memory)
+
     def test_the_length_of_a_file_pays_for_its_rows_and_names(self):
-        """300 objects of 300 fields, or enums of 300 members, are 90,300 rows: 65,536, and one for each four of 99,056
-        bytes. 32 times as many bytes of names are 1,048,576, and 16 for each of 115,064 bytes."""
+        """150 objects of 150 fields, or enums of 150 members, are 22,650 rows: 16,384, and one for each 20 of 125,320
+        bytes. 160 times as many bytes of names are 1,048,576, and 16 for each of 160,964 bytes."""
         path = FOLDER / "shared.bfbs"
         paid, shared = schemaless("L2 C4 BadSlot owner=0 part=0", path), schemaless("L6 TooMuchShared", path)
         for made, paid in (shared_file, paid), (shared_enums, rootless(None)):
-            for name, size, want in [(1, 99_056, paid), (1, 99_055, shared), (32, 115_064, paid), (32, 115_063, shared)]:
-                ran = run("--schema", file_of("shared.bfbs", made(300, name, size)))
+            for name, size, want in [(1, 125_320, paid), (1, 125_319, shared), (160, 160_964, paid),
+                                     (160, 160_963, shared)]:
+                ran = run("--schema", file_of("shared.bfbs", made(150, name, size)))
                 self.same(f"{made.__name__}: names of {name} in {size} bytes", ran, want)
 
     def test_a_buffer_past_the_default_budget(self):

@@ -193,6 +193,6 @@ class Marks(Case):
         self.same("marks", self.told(file), Ran(0, ["builtins=Untold", "mark object=0 slot=5 flex"], b""))
 
     def test_the_length_of_a_file_pays_for_its_rows(self):
-        """300 objects of 300 fields are 90,300 rows: 65,536, and one for each four of 99,056 bytes."""
-        for size, want in [(99_056, "builtins=Untold"), (99_055, "fault L6 TooMuchShared")]:
-            self.same(f"{size} bytes", self.told(shared_file(300, 32, size)), Ran(0, [want], b""))
+        """150 objects of 150 fields are 22,650 rows: 16,384, and one for each 20 of 125,320 bytes."""
+        for size, want in [(125_320, "builtins=Untold"), (125_319, "fault L6 TooMuchShared")]:
+            self.same(f"{size} bytes", self.told(shared_file(150, 32, size)), Ran(0, [want], b""))

@@ -85,6 +85,6 @@ class PlanTime(Case):
         for name, small, large in [
             ("of one table", (1, 8_000), (1, 32_000)),
             ("one of each table", (TABLES, 1), (4 * TABLES, 1)),
-            ("of tables that share them", (2, 8_000), (8, 8_000)),
+            ("of tables that share them", (1, 8_000), (4, 8_000)),
         ]:
             self.grows(name, marked, small, large)

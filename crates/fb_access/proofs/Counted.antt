@@ -2,12 +2,10 @@
 use Rattle.std.proofs.Common.{◌≡◌, ℕ, ℤ, ◌*◌, ◌≤◌, ◌<◌, ◌^◌, ◌%◌, List, length, arith, w64}
 use Rattle.std.specs.Int.{cast_unsigned}
 use Rattle.std.proofs.Math.Facts.{sfits_to_z}
-use Rattle.fb_schema.specs.declared.kinds.Scalar.{Scalar, TheVariants.Float, TheVariants.Double}
-use Rattle.fb_schema.specs.Kinds.{scalar_size}
-use Rattle.fb_schema.specs.declared.kinds.Kind.TheVariants.{Tables}
-use Rattle.fb_schema.specs.Rows.{Rows}
-use Rattle.fb_access.specs.declared.{spot.Spot.Spot, answer.Answer.Answer}
-use Rattle.fb_access.specs.{Denotes.vector, Denotes.value, Denotes.number, Denotes.default_value, Denotes.shown, Held.IsSpot, Here.IsHere, Here.FitsScalar}
+use Rattle.fb_schema.specs.{declared.kinds.Scalar.Scalar, declared.kinds.Scalar.TheVariants.Float, declared.kinds.Scalar.TheVariants.Double, Kinds.scalar_size}
+use Rattle.fb_schema.specs.{declared.kinds.Kind.TheVariants.Tables, Rows.Rows}
+use Rattle.fb_access.specs.{declared.spot.Spot.Spot, declared.answer.Answer.Answer, Denotes.vector, Denotes.value, Denotes.number, Denotes.default_value, Denotes.shown}
+use Rattle.fb_access.specs.{Held.IsSpot, Here.IsHere, Here.FitsScalar}
 
 pub tables_fit : (b : List ℕ) (S : Rows) (p : Spot) (k n : ℕ) → IsSpot b S p → IsHere p (Tables k) → vector n ≡ value b S p → 4 * n ≤ length b
 unfolding IsSpot value

@@ -1,9 +1,8 @@
 -- The extent of a vector or array is that of its elements.
 use Rattle.std.proofs.Common.{◌≡◌, ℕ, ◌<◌, ℤ, List, arith, Some}
-use Rattle.fb_schema.specs.{declared.kinds.Scalar.Scalar}
-use Rattle.fb_access.specs.declared.spot.Spot.{Spot}
-use Rattle.fb_access.specs.{Denotes.next_spot, Denotes.number, Denotes.inline_value, Denotes.default_value, Denotes.value, Denotes.vector, Extents.extent, Spots.if_element, Spots.spot_of_element}
-use Rattle.fb_access.specs.StepLaws.{position_of, ElementsFillExtents}
+use Rattle.fb_schema.specs.declared.kinds.Scalar.{Scalar}
+use Rattle.fb_access.specs.{declared.spot.Spot.Spot, Denotes.next_spot, Denotes.number, Denotes.inline_value, Denotes.default_value, Denotes.value, Denotes.vector, Extents.extent}
+use Rattle.fb_access.specs.{Spots.if_element, Spots.spot_of_element, StepLaws.position_of, StepLaws.ElementsFillExtents}
 use Rattle.fb_access.proofs.StepLaws.{element_there}
 
 same_count : {m n : ℕ} → vector m ≡ vector n → m ≡ n

@@ -4,15 +4,14 @@ use Rattle.std.proofs.lemmas.Nat.{pow_pos}
 use Rattle.std.specs.Prelude.{slice_get, IfSome}
 use Rattle.fb_bytes.specs.Word.{word}
 use Rattle.fb_schema.specs.declared.kinds.Kind.TheVariants.{Scalar as AScalar, Text, Struct, Table, Union, Scalars, Texts, Structs, Tables, Unions}
-use Rattle.fb_schema.specs.{Rows.Rows, Rows.Object, Kinds.kind_size, Kinds.kind_align, Kinds.align_in, Live.Live, Members.member_of, declared.kinds.Kind.Kind}
-use Rattle.fb_schema.specs.Served.{IsAlignment, IsServed, KindHolds}
+use Rattle.fb_schema.specs.{Rows.Rows, Rows.Object, Kinds.kind_size, Kinds.kind_align, Kinds.align_in, Live.Live, Members.member_of, declared.kinds.Kind.Kind, Served.IsAlignment}
+use Rattle.fb_schema.specs.Served.{IsServed, KindHolds}
 use Rattle.fb_rules.specs.{Places.target, Places.field_place, Tree.Elements, Unfolds.ElementsUnfold, OffsetRows.TypesFit, OffsetRows.IsTyped, declared.checks.Checks.Checks}
-use Rattle.fb_rules.specs.Fields.{IsPresent, IsPresentOrAbsent, IsField, entries, entries_of, entries_at, union_entry, union_type, type_count, types_begin, type_place, to_table, to_string, lead_of}
-use Rattle.fb_access.specs.Fitting.{numbered}
-use Rattle.fb_access.specs.Spots.{absent_spot, present_spot, spot_at, field_spot}
-use Rattle.fb_access.specs.Held.{IsTableAt, IsLed, IsSpot, IsReadable}
-use Rattle.fb_access.proofs.Leading.{row_led, union_row_led, one_led, led_to_table, led_to_string, led_to_nothing}
-use Rattle.fb_access.proofs.TableFields.{HoldsField, field_holds}
+use Rattle.fb_rules.specs.Fields.{IsPresent, IsPresentOrAbsent, IsField, entries, entries_of, entries_at, union_entry, union_type, type_count, types_begin, type_place, to_table}
+use Rattle.fb_rules.specs.Fields.{to_string, lead_of}
+use Rattle.fb_access.specs.{Fitting.numbered, Spots.absent_spot, Spots.present_spot, Spots.spot_at, Spots.field_spot, Held.IsTableAt, Held.IsLed, Held.IsSpot, Held.IsReadable}
+use Rattle.fb_access.proofs.{Leading.row_led, Leading.union_row_led, Leading.one_led, Leading.led_to_table, Leading.led_to_string, Leading.led_to_nothing, TableFields.HoldsField}
+use Rattle.fb_access.proofs.TableFields.{field_holds}
 
 -- what has an alignment is there
 object_there : (os : List Object) (k : ℕ) → IsAlignment (align_in (slice_get os k)) → k < length os

@@ -6,7 +6,7 @@ use Rattle.fb_rules.specs.Places.{field_place}
 use Rattle.fb_access.specs.declared.{known.KnownField.KnownField, step.Step.TheVariants.Field, spot.Spot.Spot, spot.Spot.TheVariants.AtTable}
 use Rattle.fb_access.specs.{Fitting.numbered, Denotes.next_spot, Denotes.Leads, Held.IsSpot, Held.HasVtable, Held.IsReadable, Here.IsHere, Spots.field_spot, Spots.spot_at}
 use Rattle.fb_access.specs.Known.{known_of, HasKnown, known_at, known_spot}
-use Rattle.fb_access.proofs.{Held.at_table, TableFields.table_has_vtable, FieldSpots.field_readable, Sure.table_here}
+use Rattle.fb_access.proofs.{Held.at_table, TableFields.table_has_vtable, FieldSpots.field_readable}
 
 -- the live field
 record IsField (S : Rows) (k : ℕ) (field : KnownField) : Type 0 where
@@ -22,10 +22,6 @@ the_field S k field (Some f) i e = record { live = f; found = i; same = cc }
 spot_same : (b : List ℕ) (t : ℕ) (f : Live) (place : Option ℕ) → spot_at b t f place ≡ known_at b t (known_of f) place
 spot_same b t f None = refl
 spot_same b t f (Some p) = refl
-
--- a table is here
-pub known_at_table : (S : Rows) (p : Spot) (field : KnownField) → HasKnown S p field → ((k t : ℕ) → p ≡ AtTable k t → ⊥) → ⊥
-known_at_table S p field h other = let t = table_here p h.object h.here in other h.object t.0 t.1
 
 module _ (b : List ℕ) (S : Rows) (p : Spot) (field : KnownField) (h : HasKnown S p field) where
   -- the table is the one that is here

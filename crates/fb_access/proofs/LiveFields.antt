@@ -1,7 +1,6 @@
 -- What is no table has no live field.
 use Rattle.std.proofs.Common.{arith, ◌≡◌, ℕ, Bool, false, not, if◌then◌else◌, List, [], find, slice_get, Option, None, ap, ◌==◌}
-use Rattle.fb_schema.specs.Live.{Live, live_fields, live_in}
-use Rattle.fb_schema.specs.Rows.{Field, Object, Rows, is_table, is_some_table}
+use Rattle.fb_schema.specs.{Live.Live, Live.live_fields, Live.live_in, Rows.Field, Rows.Object, Rows.Rows, Rows.is_table, Rows.is_some_table}
 use Rattle.fb_access.specs.Fitting.{numbered}
 
 no_rows : (b : Bool) (fields : List Field) → not b ≡ false → (if b then [] else fields) ≡ []

@@ -1,15 +1,14 @@
 -- A member of a union that has a name has a kind too.
 use Rattle.std.proofs.Common.{arith, ◌≡◌, ℕ, suc, ℤ, pos, negsuc, Bool, true, false, not, ◌&&◌, List, [], slice_get, filter, Option, Some, None, option_map, unsigned_abs, IsTrue, refl, sym, ◌∙◌, ap, find, is_none, if◌then◌else◌}
-use Rattle.std.proofs.lemmas.Bool.{false≢true, false_from_ne_true, cond-true, and_parts, and_from}
+use Rattle.std.proofs.lemmas.Bool.{false≢true, cond-true, and_parts, and_from}
 use Rattle.std.specs.{Cmp.signed_Decides, Ordering.int_eq, Str.bytes_eq}
-use Rattle.fb_schema.specs.declared.{kinds.Kind.Kind, kinds.Kind.TheVariants.Text, kinds.Kind.TheVariants.Struct, kinds.Kind.TheVariants.Table, kinds.Element.TheVariants.Text as OfText, kinds.Element.TheVariants.Object as OfObject, kinds.Shape.Shape}
-use Rattle.fb_schema.specs.declared.kinds.Shape.TheVariants.{One}
-use Rattle.fb_schema.specs.Demands.{IsLegal, first_code, member_demands, members_asked, demands_of_enum, demands_of_member, is_for_member, is_object, names_no_object}
-use Rattle.fb_schema.specs.Kinds.{kind_of, shape_of, shape_kind, object_kind}
-use Rattle.fb_schema.specs.Members.{is_member_value, member_of, member_named, members_in, members_of}
-use Rattle.fb_schema.specs.Rows.{Rows, Object, Member, Enum, entry_at, is_union, is_some_union}
+use Rattle.fb_schema.specs.declared.kinds.{Kind.Kind, Kind.TheVariants.Text, Kind.TheVariants.Struct, Kind.TheVariants.Table, Element.TheVariants.Text as OfText}
+use Rattle.fb_schema.specs.{declared.kinds.Element.TheVariants.Object as OfObject, declared.kinds.Shape.Shape, declared.kinds.Shape.TheVariants.One, Demands.IsLegal}
+use Rattle.fb_schema.specs.Demands.{first_code, member_demands, members_asked, demands_of_enum, demands_of_member, is_for_member, is_object, names_no_object}
+use Rattle.fb_schema.specs.{Kinds.kind_of, Kinds.shape_of, Kinds.shape_kind, Kinds.object_kind, Members.is_member_value, Members.member_of, Members.member_named}
+use Rattle.fb_schema.specs.{Members.members_in, Members.members_of, Rows.Rows, Rows.Object, Rows.Member, Rows.Enum, Rows.entry_at, Rows.is_union, Rows.is_some_union}
 use Rattle.fb_schema.specs.Served.{MemberHolds}
-use Rattle.fb_schema.proofs.{DemandLaws.clear_line, FindLemmas.find_filter, LegalLemmas.legal_clear}
+use Rattle.fb_schema.proofs.{DemandLaws.clear_line, FindLemmas.find_filter, LegalLemmas.legal_clear, RowLemmas.live_line, UnionLemmas.real_not_zero}
 use Rattle.fb_access.specs.Kept.{IsThere}
 use Rattle.fb_access.proofs.Found.{found_there, some_found}
 
@@ -17,13 +16,7 @@ use Rattle.fb_access.proofs.Found.{found_there, some_found}
 not_and : (a b : Bool) → (not a && not b) ≡ false → a ≡ false → b ≡ true
 not_and a b h e = grind arith
 
-and_false : (a b : Bool) → (not a && b) ≡ false → a ≡ false → b ≡ false
-and_false a b h e = grind arith
-
 -- Values.
-pub real_not_zero : (z : ℤ) → is_member_value z ≡ true → int_eq z (pos 0) ≡ false
-real_not_zero z h = false_from_ne_true (int_eq z (pos 0)) (λ e. false≢true (ap is_member_value (sym ((signed_Decides z (pos 0)).0 e)) ∙ h))
-
 real_value : (z : ℤ) (v : ℕ) → is_member_value z ≡ true → unsigned_abs z ≡ v → int_eq z (pos v) ≡ true
 real_value z v h e = grind (arith, signed_Decides)
 
@@ -78,7 +71,7 @@ member_has_kind rows m taken named clear h =
     let ds = member_demands rows m taken named in
     let real = real_not_zero m.value h in
     let fits = not_and (int_eq m.value (pos 0)) (is_for_member (shape_of m.ty)) (clear_line ds clear 2 _ refl) real in
-    let there = and_false (int_eq m.value (pos 0)) (is_object (shape_of m.ty) && is_none (entry_at rows.objects m.ty.index)) (clear_line ds clear 3 _ refl) real in
+    let there = live_line (int_eq m.value (pos 0)) (is_object (shape_of m.ty) && is_none (entry_at rows.objects m.ty.index)) (clear_line ds clear 3 _ refl) real in
     kind_of_shape rows m.ty.index (shape_of m.ty) fits there
 
 asked_at : (rows : Rows) (members : List Member) (q : ℕ) (m : Member) → slice_get members q ≡ Some m → first_code (members_asked rows members q) ≡ None → is_member_value m.value ≡ true → HasKind rows (kind_of rows m.ty)

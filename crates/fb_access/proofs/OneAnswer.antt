@@ -1,12 +1,11 @@
 -- One answer applies to a text.
 use Rattle.std.proofs.Common.{◌≡◌, ℕ, suc, ◌+◌, ◌⊎◌, inl, inr, List, [], ◌∷◌, ◌++◌, length, Result, Ok, Err, refl, sym, ◌∙◌, ap, arith}
-use Rattle.fb_schema.specs.declared.{kinds.Kind.Kind, kinds.Kind.TheVariants.Table}
-use Rattle.fb_schema.specs.Rows.{Rows}
-use Rattle.fb_access.specs.declared.{step.Step.Step, misfit.Misfit.Misfit, misfit.Fitted.Fitted, path_fault.PathFault.PathFault}
-use Rattle.fb_access.specs.declared.misfit.Misfit.TheVariants.{NoSuchField, NotIndexable, NotAUnion, NoSuchMember, NotATable}
-use Rattle.fb_access.specs.declared.path_fault.PathFault.TheVariants.{BadText, NoSuchField as NoSuchFieldAt, NotIndexable as NotIndexableAt, NotAUnion as NotAUnionAt, NoSuchMember as NoSuchMemberAt, NotATable as NotATableAt, OutOfMemory}
-use Rattle.fb_access.specs.Grammar.{Part, field, IsWrongAt}
-use Rattle.fb_access.specs.Resolving.{fitting, fault_of, Follows, Misfits, IsAnswer}
+use Rattle.fb_schema.specs.{declared.kinds.Kind.Kind, declared.kinds.Kind.TheVariants.Table, Rows.Rows}
+use Rattle.fb_access.specs.declared.{step.Step.Step, misfit.Misfit.Misfit, misfit.Fitted.Fitted, path_fault.PathFault.PathFault, misfit.Misfit.TheVariants.NoSuchField}
+use Rattle.fb_access.specs.declared.misfit.Misfit.TheVariants.{NotIndexable, NotAUnion, NoSuchMember, NotATable}
+use Rattle.fb_access.specs.declared.path_fault.PathFault.TheVariants.{BadText, NoSuchField as NoSuchFieldAt, NotIndexable as NotIndexableAt, NotAUnion as NotAUnionAt}
+use Rattle.fb_access.specs.declared.path_fault.PathFault.TheVariants.{NoSuchMember as NoSuchMemberAt, NotATable as NotATableAt, OutOfMemory}
+use Rattle.fb_access.specs.{Grammar.Part, Grammar.field, Grammar.IsWrongAt, Resolving.fitting, Resolving.fault_of, Resolving.Follows, Resolving.Misfits, Resolving.IsAnswer}
 use Rattle.fb_access.specs.Cutting.{Spells}
 use Rattle.fb_access.proofs.{OneReading.one_spelling, Stuck.path_spells, Stuck.spells_path}
 

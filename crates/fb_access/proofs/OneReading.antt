@@ -1,8 +1,7 @@
 -- A text has one reading.
 use Rattle.std.proofs.Common.{◌≡◌, ℕ, List, [], ◌∷◌, refl, sym, ◌∙◌, ap, arith}
 use Rattle.std.specs.List.{AllByRecursion}
-use Rattle.fb_access.specs.Grammar.{Part, field, element, member, IsPart, IsReading, spelling}
-use Rattle.fb_access.specs.Cutting.{written, Ends}
+use Rattle.fb_access.specs.{Grammar.Part, Grammar.field, Grammar.element, Grammar.member, Grammar.IsPart, Grammar.IsReading, Grammar.spelling, Cutting.written, Cutting.Ends}
 use Rattle.fb_access.proofs.Words.{one_word, name_word, number_word, ends_here}
 
 pub spelling_is : (p : Part) (ps : List Part) → spelling (p ∷ ps) ≡ written p (spelling ps)

@@ -2,15 +2,13 @@
 use Rattle.std.proofs.Common.{◌≡◌, ℕ, refl, rules, List, [], ◌∷◌, Option, Some, None, option_map, option_and_then}
 use lib.Ieee.{of_bits, round, to_bits}
 use Rattle.std.specs.Float.{round_to_format}
-use Rattle.fb_rules.specs.declared.start.Start.TheVariants.{Bare}
+use Rattle.fb_rules.specs.{declared.start.Start.TheVariants.Bare, Places.has_vtable, Places.vtable, Places.field_place}
 use Rattle.fb_bytes.specs.Word.{word}
 use Rattle.fb_schema.specs.{Live.live_fields, Kinds.shape_of, Kinds.kind_of, Kinds.base_types, Members.member_of, Parts.part_at}
-use Rattle.fb_rules.specs.Places.{has_vtable, vtable, field_place}
-use Rattle.fb_access.specs.Spots.{present_spot, absent_spot, spot_of_part, spot_of_element, member_spot}
-use Rattle.fb_access.specs.Denotes.{next_spot, Reaches, Shown, root_spot, number, inline_value, default_value, value}
-use Rattle.fb_access.specs.declared.{step.Step.Step, spot.Spot.Spot}
-use Rattle.fb_access.specs.Samples.{rows, bytes}
-use Rattle.fb_access.specs.Examples.{Holds, FieldValues, ElementValues, PartValues, MemberValues, ScalarValues, DefaultValues, NearestSingles, StayingValues, LackingFields, PrefixedValues, InsideValues}
+use Rattle.fb_access.specs.{Spots.present_spot, Spots.absent_spot, Spots.spot_of_part, Spots.spot_of_element, Spots.member_spot, Denotes.next_spot, Denotes.Reaches, Denotes.Shown}
+use Rattle.fb_access.specs.{Denotes.root_spot, Denotes.number, Denotes.inline_value, Denotes.default_value, Denotes.value, declared.step.Step.Step, declared.spot.Spot.Spot}
+use Rattle.fb_access.specs.{Samples.rows, Samples.bytes, Examples.Holds, Examples.FieldValues, Examples.ElementValues, Examples.PartValues, Examples.MemberValues}
+use Rattle.fb_access.specs.Examples.{ScalarValues, DefaultValues, NearestSingles, StayingValues, LackingFields, PrefixedValues, InsideValues}
 
 -- all that is computed
 computing : ℕ

@@ -1,12 +1,11 @@
 -- Some answer applies to each text.
 use Rattle.std.proofs.Common.{◌≡◌, ℕ, zero, suc, ◌≤◌, ◌⊎◌, ◌==◌, inl, inr, true, false, List, [], ◌∷◌, ◌++◌, length, Option, Some, None, Result, Ok, Err, refl, sym, ap, subst, arith, append_assoc, append-nil}
 use Rattle.std.proofs.lemmas.Bool.{cases_Bool, eqb-true, eqb-false}
-use Rattle.fb_schema.specs.declared.{kinds.Kind.Kind, kinds.Kind.TheVariants.Table}
-use Rattle.fb_schema.specs.Rows.{Rows}
+use Rattle.fb_schema.specs.{declared.kinds.Kind.Kind, declared.kinds.Kind.TheVariants.Table, Rows.Rows}
 use Rattle.fb_access.specs.declared.{step.Step.Step, misfit.Misfit.Misfit, misfit.Fitted.Fitted, path_fault.PathFault.PathFault, path_fault.PathFault.TheVariants.BadText}
-use Rattle.fb_access.specs.Grammar.{Part, field, element, member, begins_name, goes_on}
-use Rattle.fb_access.specs.Cutting.{IsWord, IsNamed, HasNoName, IsNumbered, next_digit, BeginsWith, Spells, IsStuck}
-use Rattle.fb_access.specs.Resolving.{fitting, fault_of, Follows, IsAnswer}
+use Rattle.fb_access.specs.{Grammar.Part, Grammar.field, Grammar.element, Grammar.member, Grammar.begins_name, Grammar.goes_on, Cutting.IsWord, Cutting.IsNamed, Cutting.HasNoName}
+use Rattle.fb_access.specs.{Cutting.IsNumbered, Cutting.next_digit, Cutting.BeginsWith, Cutting.Spells, Cutting.IsStuck, Resolving.fitting, Resolving.fault_of, Resolving.Follows}
+use Rattle.fb_access.specs.Resolving.{IsAnswer}
 use Rattle.fb_access.proofs.{Words.AreSoFar, Words.one_digit_more, Following.follows_more, Following.longer, Following.misfit_fault, Following.misfits, Following.resolves}
 use Rattle.fb_access.proofs.Stuck.{no_mark, no_field, no_member, no_index, part_spells, part_stuck, stuck_wrong}
 

@@ -1,12 +1,10 @@
 -- Texts that no path goes on with from some byte on.
 use Rattle.std.proofs.Common.{◌≡◌, ℕ, suc, ◌+◌, ◌-◌, ◌<◌, ◌≤◌, inl, false, List, [], ◌∷◌, ◌++◌, length, take, Option, Some, None, refl, sym, ◌∙◌, subst, ap, arith, append_assoc, Bor}
-use Rattle.std.proofs.lemmas.List.{length-append}
-use Rattle.std.proofs.Math.Seq.{take-append_seam, take-append-add}
+use Rattle.std.proofs.{lemmas.List.length-append, Math.Seq.take-append_seam, Math.Seq.take-append-add}
 use Rattle.fb_access.specs.Grammar.{goes_on, IsName, IsNumber, Part, field, element, member, spelling, IsPath, BeginsPath, IsWrongAt}
-use Rattle.fb_access.specs.declared.pieces.Piece.TheVariants.{Field, Element, Member}
-use Rattle.fb_access.specs.Cutting.{IsNamed, IsNumbered, IsCut, HasNoName, IsRead, Stops, written, Ends, BeginsWith, Spells, BeginsLike, IsStuck}
-use Rattle.fb_access.proofs.Words.{ends_here, AreSoFar, IsDead, no_number}
-use Rattle.fb_access.proofs.OneReading.{one_part, some_written, spelling_is}
+use Rattle.fb_access.specs.{declared.pieces.Piece.TheVariants.Field, declared.pieces.Piece.TheVariants.Element, declared.pieces.Piece.TheVariants.Member, Cutting.IsNamed}
+use Rattle.fb_access.specs.Cutting.{IsNumbered, IsCut, HasNoName, IsRead, Stops, written, Ends, BeginsWith, Spells, BeginsLike, IsStuck}
+use Rattle.fb_access.proofs.{Words.ends_here, Words.AreSoFar, Words.IsDead, Words.no_number, OneReading.one_part, OneReading.some_written, OneReading.spelling_is}
 
 -- Where no part goes on.
 

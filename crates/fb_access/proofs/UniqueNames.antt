@@ -1,13 +1,13 @@
 -- The live fields and the members of legal rows are found by their names.
 use Rattle.std.proofs.Common.{◌≡◌, ℕ, zero, suc, ◌<◌, ◌&&◌, pos, Bool, true, List, [], ◌∷◌, get_or, slice_get, find, option_map, unsigned_abs, IsTrue, Option, Some, None, refl, sym, ◌∙◌, ap, subst, arith}
-use Rattle.fb_access.proofs.{StepLaws.some_same, Found.found_there, MemberKinds.real_not_zero, MemberKinds.union_row, MemberKinds.found_among, MemberKinds.clear}
+use Rattle.fb_access.proofs.{StepLaws.some_same, Found.found_there, MemberKinds.union_row, MemberKinds.found_among, MemberKinds.clear}
 use Rattle.std.proofs.lemmas.Bool.{false≢true, and_parts, and_from, or_left, or_right}
 use Rattle.std.specs.{Cmp.signed_Decides, Ordering.int_eq, Str.bytes_eq}
 use Rattle.std.proofs.lemmas.{Option.slice_get-get_or, Option.get_or_from_slice_get, Option.slice_get_within, Slice.Eq.bytes_eq-Decides}
 use Rattle.fb_schema.specs.Demands.{IsLegal, first_code, stands_before, same_field_name, same_member_name, table_field_demands, member_demands, demands_of_member}
 use Rattle.fb_schema.specs.{Live.Live, Live.live_fields, Served.IsServed, declared.kinds.Kind.Kind, Rows.Field, Rows.Object, Rows.Member, Rows.Enum, Rows.Rows, Rows.is_union}
 use Rattle.fb_schema.specs.Members.{is_member_value, members_of, member_of, member_named, member_name}
-use Rattle.fb_schema.proofs.{DemandLaws.clear_line, FindLemmas.found_item, Kinded.row_of, RowLemmas.IsRowOf, RowLemmas.asked}
+use Rattle.fb_schema.proofs.{DemandLaws.clear_line, FindLemmas.found_item, Kinded.row_of, RowLemmas.IsRowOf, RowLemmas.asked, UnionLemmas.real_not_zero}
 use Rattle.fb_access.specs.Resolving.{field_with_name}
 
 -- Lists.

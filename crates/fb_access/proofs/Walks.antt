@@ -1,12 +1,11 @@
 -- Steps that fit lead on from the root.
 use Rattle.std.proofs.Common.{◌≡◌, ℕ, ◌+◌, ◌<◌, suc, get_or, add-one, List, [], ◌∷◌, ◌++◌, length, take, drop, refl, sym, subst, IsTrue}
-use Rattle.std.proofs.Math.Seq.{drop-cons}
-use Rattle.std.proofs.lemmas.List.{take_more}
+use Rattle.std.proofs.{Math.Seq.drop-cons, lemmas.List.take_more}
 use Rattle.fb_schema.specs.Rows.{Rows}
 use Rattle.fb_rules.specs.{Places.target, WellFormed.base}
 use Rattle.fb_verify.specs.Sealed.{Sealed, IsUnfolded}
-use Rattle.fb_access.specs.declared.{step.Step.Step, spot.Spot.Spot, spot.Spot.TheVariants.AtTable}
-use Rattle.fb_access.specs.{Denotes.Leads, Denotes.allows, Denotes.Reaches, Held.IsSpot, Held.IsPlaced, Underway.IsWalked}
+use Rattle.fb_access.specs.{declared.step.Step.Step, declared.spot.Spot.Spot, declared.spot.Spot.TheVariants.AtTable, Denotes.Leads, Denotes.allows, Denotes.Reaches, Held.IsSpot}
+use Rattle.fb_access.specs.{Held.IsPlaced, Underway.IsWalked}
 use Rattle.fb_access.proofs.StepKinds.{kind_allows, kinds_go_on}
 
 -- the root table of a buffer that unfolds

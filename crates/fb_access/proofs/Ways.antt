@@ -1,15 +1,13 @@
 -- The text of a way is read back as the parts of its links.
 use Rattle.std.proofs.Common.{◌≡◌, ℕ, zero, suc, ◌<◌, ◌^◌, Bool, true, ◌||◌, ◌==◌, if◌then◌else◌, IsTrue, List, [], ◌∷◌, ◌++◌, length, get_or, Option, codes, decimal, refl, sym, ◌∙◌, ap, subst, arith, append_assoc, append-nil, inl, inr}
 use Rattle.std.proofs.lemmas.{Bool.Decides.nat_tests, Fmt.decimal_digit, Fmt.decimal_nonempty, Fmt.first_decimal, Fmt.digits_decimal, Fmt.digits_value-decimal}
-use Rattle.std.specs.{Int.IsInRange, List.AllByRecursion}
 use Rattle.std.proofs.lemmas.Str.Parse.{IsDigitsTest, FoldsDigits, IsNumeralModel, numerals_by_fold}
-use Rattle.fb_schema.specs.declared.kinds.Kind.TheVariants.{Table}
-use Rattle.fb_schema.specs.Rows.{Rows}
+use Rattle.std.specs.{Int.IsInRange, List.AllByRecursion}
+use Rattle.fb_schema.specs.{declared.kinds.Kind.TheVariants.Table, Rows.Rows}
 use Rattle.fb_rules.specs.declared.link.Link.{Link}
 use Rattle.fb_access.proofs.Words.{AreDigits}
 use Rattle.fb_access.specs.Grammar.{goes_on, is_digit, number_from, number_of, Part, field, IsName, IsNumber, IsPart, spelling}
-use Rattle.fb_access.specs.Resolving.{Follows}
-use Rattle.fb_access.specs.Location.{name_text, named, link_member, element_text, link_text, path_text}
+use Rattle.fb_access.specs.{Resolving.Follows, Location.name_text, Location.named, Location.link_member, Location.element_text, Location.link_text, Location.path_text}
 use Rattle.fb_access.specs.LocationLaws.{field_parts, element_parts, member_parts, link_parts, parts_of, IsShort, IsNameIfAny, IsNamed, AreNamed, AreDotted, WaysResolve}
 
 -- Names of the grammar are written as they are.

@@ -1,8 +1,7 @@
 -- Words and numbers, and what ends them.
 use Rattle.std.proofs.Common.{◌≡◌, ℕ, ◌+◌, ◌-◌, ◌*◌, ◌≤◌, ◌<◌, ◌⊎◌, inl, inr, false, List, [], ◌∷◌, ◌++◌, take, drop, length, get_or, Option, Some, None, IsTrue, refl, sym, ◌∙◌, subst, arith, append-nil}
 use Rattle.std.specs.List.{AllByRecursion}
-use Rattle.std.proofs.lemmas.{Bool.or_right, Bool.Decides.nat_tests, List.take-append-drop}
-use Rattle.std.proofs.Math.Seq.{drop-cons}
+use Rattle.std.proofs.{lemmas.Bool.or_right, lemmas.Bool.Decides.nat_tests, lemmas.List.take-append-drop, Math.Seq.drop-cons}
 use Rattle.fb_access.specs.Grammar.{is_digit, begins_name, goes_on, number_from, IsName, IsNumber, Part, field, spelling}
 use Rattle.fb_access.specs.Cutting.{GoOn, Stops, IsWord, Ends, BeginsLike, next_digit}
 

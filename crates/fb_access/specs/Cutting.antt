@@ -1,10 +1,9 @@
 -- A path's text, cut into its parts.
 use Rattle.std.specs.Prelude.{◌≡◌, ℕ, ◌+◌, ◌-◌, ◌*◌, ◌==◌, ◌&&◌, not, nat_le, IsTrue, false, if◌then◌else◌, List, [], ◌∷◌, ◌++◌, Option, Some, None}
-use Rattle.std.specs.Borrow.{Bor}
-use Rattle.std.specs.List.{AllByRecursion}
-use Rattle.fb_access.specs.declared.{pieces.Piece.Piece, pieces.Piece.TheVariants.Field, pieces.Piece.TheVariants.Element, pieces.Piece.TheVariants.Member}
-use Rattle.fb_access.specs.declared.{pieces.Next.Next, pieces.Next.TheVariants.Part as APart, pieces.Next.TheVariants.End, pieces.Next.TheVariants.Wrong}
-use Rattle.fb_access.specs.Grammar.{Part, field, element, member, is_digit, begins_name, goes_on, number_of, IsName, IsNumber, IsPart, spelling}
+use Rattle.std.specs.{Borrow.Bor, List.AllByRecursion}
+use Rattle.fb_access.specs.declared.pieces.{Piece.Piece, Piece.TheVariants.Field, Piece.TheVariants.Element, Piece.TheVariants.Member, Next.Next, Next.TheVariants.Part as APart}
+use Rattle.fb_access.specs.{declared.pieces.Next.TheVariants.End, declared.pieces.Next.TheVariants.Wrong, Grammar.Part, Grammar.field, Grammar.element, Grammar.member}
+use Rattle.fb_access.specs.Grammar.{is_digit, begins_name, goes_on, number_of, IsName, IsNumber, IsPart, spelling}
 
 -- letters, digits and `_`
 abbrev pub GoOn : List ℕ → Type 0

@@ -1,17 +1,15 @@
 -- What a path denotes in a buffer: a chain of spots from the root table, one for each step, and the value at its end.
 use Rattle.std.specs.Prelude.{◌≡◌, ℕ, ℤ, ◌+◌, ◌%◌, ◌^◌, ◌==◌, Bool, true, not, List, [], ◌∷◌, take, drop, to_bits, from_bits, Option, Some, None, is_some}
-use Rattle.std.specs.Int.{cast_signed, cast_unsigned, w8, w16, w32, w64}
-use Rattle.std.specs.Float.{binary32, binary64, round_to_format}
+use Rattle.std.specs.{Int.cast_signed, Int.cast_unsigned, Int.w8, Int.w16, Int.w32, Int.w64, Float.binary32, Float.binary64, Float.round_to_format}
 use Rattle.fb_bytes.specs.Word.{word}
 use Rattle.fb_schema.specs.declared.kinds.Scalar.TheVariants.{Bool as AsBool, Byte, Short, Int as AsInt, Long, Float as AsFloat, Double}
 use Rattle.fb_schema.specs.{Rows.Rows, Kinds.scalar_size, Kinds.struct_size, declared.kinds.Scalar.Scalar, declared.kinds.Kind.Kind}
 use Rattle.fb_rules.specs.{Places.target, WellFormed.base, declared.start.Start.Start}
 use Rattle.fb_access.specs.declared.{step.Step.Step, step.Step.TheVariants.Field, step.Step.TheVariants.Element, step.Step.TheVariants.Member, spot.Spot.Spot, answer.Answer.Answer}
-use Rattle.fb_access.specs.declared.spot.Spot.TheVariants.{AtTable, AtInline, AtStruct, AtText, AtScalars, AtStructs, AtScalarArray, AtStructArray}
-use Rattle.fb_access.specs.declared.spot.Spot.TheVariants.{AtTexts, AtTables, AtUnions, AtUnion, AtDefault, AtAbsent, AtNoElement, AtOtherMember}
+use Rattle.fb_access.specs.declared.spot.Spot.TheVariants.{AtTable, AtInline, AtStruct, AtText, AtScalars, AtStructs, AtScalarArray, AtStructArray, AtTexts, AtTables, AtUnions}
+use Rattle.fb_access.specs.declared.spot.Spot.TheVariants.{AtUnion, AtDefault, AtAbsent, AtNoElement, AtOtherMember}
 use Rattle.fb_access.specs.declared.answer.Answer.TheVariants as answer
-use Rattle.fb_access.specs.Fitting.{next_kind}
-use Rattle.fb_access.specs.Spots.{kind_at, spot_of_field, spot_of_element, spot_of_member}
+use Rattle.fb_access.specs.{Fitting.next_kind, Spots.kind_at, Spots.spot_of_field, Spots.spot_of_element, Spots.spot_of_member}
 
 -- where a step leads from here; where nothing is, every step stays
 unfoldable pub next_spot : List ℕ → Rows → Spot → Step → Option Spot

@@ -1,14 +1,12 @@
 -- Examples of what paths denote in a buffer.
 use Rattle.std.specs.Prelude.{◌≡◌, pos, negsuc, true, false, List, [], ◌∷◌, codes, None}
-use Rattle.fb_rules.specs.declared.start.Start.TheVariants.{Bare, Prefixed}
-use Rattle.fb_rules.specs.Tree.{Tree, node, Kids, no_elements, element, leaf, table as a_table}
-use Rattle.fb_rules.specs.Samples.{monsters, monster, open_name}
-use Rattle.fb_rules.specs.Examples.{Counts, one_table, one_leaf, kids_of}
-use Rattle.fb_access.specs.declared.{step.Step.Step, step.Step.TheVariants.Field, step.Step.TheVariants.Element, step.Step.TheVariants.Member}
-use Rattle.fb_access.specs.declared.spot.Spot.TheVariants.{AtTable, AtStruct, AtText, AtUnion}
-use Rattle.fb_access.specs.Denotes.{next_spot, Shown, nothing, no_element, other_member, truth, signed, unsigned, float}
-use Rattle.fb_access.specs.Denotes.{default_float, default_double, text, structure, vector, table, union, Denotes, nearest_single}
-use Rattle.fb_access.specs.{Inside.LiesInside, Samples.rows, Samples.bytes, Samples.prefixed_monster}
+use Rattle.fb_rules.specs.{declared.start.Start.TheVariants.Bare, declared.start.Start.TheVariants.Prefixed, Tree.Tree, Tree.node, Tree.Kids, Tree.no_elements, Tree.element}
+use Rattle.fb_rules.specs.{Tree.leaf, Tree.table as a_table, Samples.monsters, Samples.monster, Samples.open_name, Examples.Counts, Examples.one_table, Examples.one_leaf}
+use Rattle.fb_rules.specs.Examples.{kids_of}
+use Rattle.fb_access.specs.declared.{step.Step.Step, step.Step.TheVariants.Field, step.Step.TheVariants.Element, step.Step.TheVariants.Member, spot.Spot.TheVariants.AtTable}
+use Rattle.fb_access.specs.{declared.spot.Spot.TheVariants.AtStruct, declared.spot.Spot.TheVariants.AtText, declared.spot.Spot.TheVariants.AtUnion, Denotes.next_spot}
+use Rattle.fb_access.specs.Denotes.{Shown, nothing, no_element, other_member, truth, signed, unsigned, float, default_float, default_double, text, structure, vector, table, union}
+use Rattle.fb_access.specs.{Denotes.Denotes, Denotes.nearest_single, Inside.LiesInside, Samples.rows, Samples.bytes, Samples.prefixed_monster}
 
 -- in the sample these steps from the root table lead to this value
 pub record Holds (steps : List Step) (x : Shown) : Type 0 where

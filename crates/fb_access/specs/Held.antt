@@ -5,11 +5,10 @@ use Rattle.fb_bytes.specs.Word.{word}
 use Rattle.fb_schema.specs.declared.kinds.Kind.{Kind, TheVariants.Scalar, TheVariants.Struct, TheVariants.Union, TheVariants.Unions}
 use Rattle.fb_schema.specs.{Rows.Rows, Rows.is_table, Rows.is_union, Kinds.scalar_size, Kinds.struct_size, Members.member_of}
 use Rattle.fb_rules.specs.{Places.has_vtable, Places.vtable, Places.vtable_size, Tree.Tree, Tree.Element, Unfolds.Unfolds, Unfolds.ElementUnfolds, declared.checks.Checks.Checks}
-use Rattle.fb_rules.specs.OffsetRows.{TypeFits, TypesFit}
+use Rattle.fb_rules.specs.{OffsetRows.TypeFits, OffsetRows.TypesFit, Fields.Lead, Fields.to_table, Fields.to_string, Fields.lead_of}
 use Rattle.fb_verify.specs.Sealed.{Sealed, IsUnfolded}
-use Rattle.fb_rules.specs.Fields.{Lead, to_table, to_string, lead_of}
-use Rattle.fb_access.specs.declared.spot.Spot.{Spot}
-use Rattle.fb_access.specs.declared.spot.Spot.TheVariants.{AtTable, AtInline, AtStruct, AtText, AtScalars, AtStructs, AtScalarArray, AtStructArray, AtTexts, AtTables, AtUnions, AtUnion}
+use Rattle.fb_access.specs.declared.spot.Spot.{Spot, TheVariants.AtTable, TheVariants.AtInline, TheVariants.AtStruct, TheVariants.AtText, TheVariants.AtScalars}
+use Rattle.fb_access.specs.declared.spot.Spot.TheVariants.{AtStructs, AtScalarArray, AtStructArray, AtTexts, AtTables, AtUnions, AtUnion}
 
 -- a table of the object k stands at t and unfolds, whatever was checked
 pub record IsTableAt (b : List ℕ) (S : Rows) (k t : ℕ) : Type 0 where

@@ -1,13 +1,11 @@
 -- From where something is, certain steps lead to where something is; and numbers are as wide as their scalars.
 use Rattle.std.specs.Prelude.{◌≡◌, ℕ, ◌<◌, ◌^◌, Bool, true, false, ◌||◌, ◌⊎◌, if◌then◌else◌, List, length, Option, Some, None, option_and_then}
 use Rattle.std.specs.Int.{Width, w8, w16, w32, w64, RustNames.FitsSigned}
-use Rattle.fb_schema.specs.declared.{kinds.Scalar.Scalar, kinds.Kind.Kind, kinds.Kind.TheVariants.Scalar as AScalar, kinds.Kind.TheVariants.Table}
-use Rattle.fb_schema.specs.declared.kinds.Scalar.TheVariants.{Byte, Short, Int as AsInt, Long}
-use Rattle.fb_schema.specs.{Rows.Rows, Kinds.scalar_size, Live.Live}
-use Rattle.fb_access.specs.declared.{step.Step.Step, step.Step.TheVariants.Field, step.Step.TheVariants.Element}
-use Rattle.fb_access.specs.declared.{step.Step.TheVariants.Member, spot.Spot.Spot, spot.Spot.TheVariants.AtAbsent, answer.Answer.Answer}
-use Rattle.fb_access.specs.declared.answer.Answer.TheVariants.{Int, UInt, Float}
-use Rattle.fb_access.specs.{Fitting.numbered, Fitting.next_kind, Spots.kind_at, Denotes.Reaches, Denotes.Shown, Denotes.value}
+use Rattle.fb_schema.specs.declared.kinds.{Scalar.Scalar, Kind.Kind, Kind.TheVariants.Scalar as AScalar, Kind.TheVariants.Table, Scalar.TheVariants.Byte, Scalar.TheVariants.Short}
+use Rattle.fb_schema.specs.{declared.kinds.Scalar.TheVariants.Int as AsInt, declared.kinds.Scalar.TheVariants.Long, Rows.Rows, Kinds.scalar_size, Live.Live}
+use Rattle.fb_access.specs.declared.{step.Step.Step, step.Step.TheVariants.Field, step.Step.TheVariants.Element, step.Step.TheVariants.Member, spot.Spot.Spot}
+use Rattle.fb_access.specs.declared.{spot.Spot.TheVariants.AtAbsent, answer.Answer.Answer, answer.Answer.TheVariants.Int, answer.Answer.TheVariants.UInt}
+use Rattle.fb_access.specs.{declared.answer.Answer.TheVariants.Float, Fitting.numbered, Fitting.next_kind, Spots.kind_at, Denotes.Reaches, Denotes.Shown, Denotes.value}
 
 -- a value of this kind is here, or its default
 abbrev pub IsHere : Spot → Kind → Type 0

@@ -2,8 +2,7 @@
 use Rattle.std.specs.Prelude.{◌≡◌, ℕ, List, Option, Some, None, option_map}
 use Rattle.fb_schema.specs.{Rows.Rows, Live.Live, declared.kinds.Kind.TheVariants.Table}
 use Rattle.fb_rules.specs.Places.{field_place}
-use Rattle.fb_access.specs.declared.{known.KnownField.KnownField, spot.Spot.Spot}
-use Rattle.fb_access.specs.{Fitting.numbered, Here.IsHere, Spots.present_spot, Spots.absent_spot}
+use Rattle.fb_access.specs.{declared.known.KnownField.KnownField, declared.spot.Spot.Spot, Fitting.numbered, Here.IsHere, Spots.present_spot, Spots.absent_spot}
 
 -- what is known of a live field
 abbrev pub known_of : Live → KnownField

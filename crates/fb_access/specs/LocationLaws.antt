@@ -1,13 +1,11 @@
 -- The laws of what is told of the way to a fault: its text is a path, and its links lead to what is under check.
 use Rattle.std.specs.Prelude.{◌≡◌, ℕ, ◌<◌, ◌^◌, List, [], ◌∷◌, ◌++◌, length, Option, Some, None, codes, decimal}
 use Rattle.fb_schema.specs.{Demands.IsLegal, Rows.Rows, Served.IsServed, declared.kinds.Kind.Kind, declared.kinds.Kind.TheVariants.Table}
-use Rattle.fb_rules.specs.declared.{fault.Fault.Fault, link.Link.Link}
-use Rattle.fb_rules.specs.{Question.Question, Fields.Lead, Fields.to_nothing, Way.Way, Way.way_to_start, Links.StopsAlong}
+use Rattle.fb_rules.specs.{declared.fault.Fault.Fault, declared.link.Link.Link, Question.Question, Fields.Lead, Fields.to_nothing, Way.Way, Way.way_to_start, Links.StopsAlong}
 use Rattle.fb_rules.specs.Stops.{Place, in_start, in_head, in_field, in_element, IsFalseAt}
-use Rattle.fb_access.specs.declared.{step.Step.Step, spot.Spot.Spot, spot.Spot.TheVariants.AtTable, spot.Spot.TheVariants.AtUnion}
-use Rattle.fb_access.specs.{Denotes.Reaches, Denotes.root_spot, Resolving.Follows, Resolving.Resolves, Location.field_name}
-use Rattle.fb_access.specs.{Location.link_member, Location.mark_behind, Location.path_text, Spots.field_spot, StepLaws.IsLedTo}
-use Rattle.fb_access.specs.Grammar.{Part, field, element, member, IsName}
+use Rattle.fb_access.specs.{declared.step.Step.Step, declared.spot.Spot.Spot, declared.spot.Spot.TheVariants.AtTable, declared.spot.Spot.TheVariants.AtUnion, Denotes.Reaches}
+use Rattle.fb_access.specs.{Denotes.root_spot, Resolving.Follows, Resolving.Resolves, Location.field_name, Location.link_member, Location.mark_behind, Location.path_text}
+use Rattle.fb_access.specs.{Spots.field_spot, StepLaws.IsLedTo, Grammar.Part, Grammar.field, Grammar.element, Grammar.member, Grammar.IsName}
 
 -- the parts of a path that a link is: its field, its element and its member, where it has them
 abbrev pub field_parts : Option (List ℕ) → List Part

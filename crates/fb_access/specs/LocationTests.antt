@@ -1,10 +1,8 @@
 -- Where faults are, in words, by example.
 use Rattle.std.specs.Prelude.{◌≡◌, ℕ, List, [], ◌∷◌, ◌++◌, codes, Option, Some, None, replicate}
 use Rattle.fb_schema.specs.Rows.{Rows}
-use Rattle.fb_rules.specs.Samples.{short, text, object, vector, field, table}
-use Rattle.fb_rules.specs.declared.fault.Fault.{Fault}
-use Rattle.fb_rules.specs.declared.fault.Reason.TheVariants.{OutOfBuffer, ZeroOffset, TooManyTables}
-use Rattle.fb_rules.specs.declared.link.Link.{Link}
+use Rattle.fb_rules.specs.{Samples.short, Samples.text, Samples.object, Samples.vector, Samples.field, Samples.table, declared.fault.Fault.Fault}
+use Rattle.fb_rules.specs.declared.{fault.Reason.TheVariants.OutOfBuffer, fault.Reason.TheVariants.ZeroOffset, fault.Reason.TheVariants.TooManyTables, link.Link.Link}
 use Rattle.fb_rules.specs.LinkExamples.{herds, link, fault, to_third}
 use Rattle.fb_access.specs.{Location.cut_to, Location.name_text, Location.location_text, Samples.rows}
 

@@ -2,8 +2,7 @@
 use Rattle.std.specs.Prelude.{◌≡◌, ℕ, List, is_some}
 use Rattle.fb_schema.specs.Rows.{Rows}
 use Rattle.fb_rules.specs.declared.start.Start.{Start}
-use Rattle.fb_access.specs.declared.{step.Step.Step, spot.Spot.Spot}
-use Rattle.fb_access.specs.Denotes.{next_spot, allows, Shown, Denotes}
+use Rattle.fb_access.specs.{declared.step.Step.Step, declared.spot.Spot.Spot, Denotes.next_spot, Denotes.allows, Denotes.Shown, Denotes.Denotes}
 
 -- a step leads on exactly where it is allowed
 abbrev pub LeadsWhereAllowed : Type 0

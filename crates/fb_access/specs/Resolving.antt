@@ -3,13 +3,12 @@ use Rattle.std.specs.Prelude.{◌≡◌, ℕ, ◌<◌, ◌^◌, nat_lt, if◌the
 use Rattle.std.specs.Str.{bytes_eq}
 use Rattle.fb_schema.specs.declared.{kinds.Kind.Kind, kinds.Kind.TheVariants.Struct, kinds.Kind.TheVariants.Table, kinds.Kind.TheVariants.Union, views.PartView.PartView}
 use Rattle.fb_schema.specs.{Rows.Rows, Live.Live, Live.live_fields, Members.member_of, Members.member_named, Parts.part_at, Parts.part_named}
-use Rattle.fb_access.specs.declared.{step.Step.Step, step.Step.TheVariants.Field, step.Step.TheVariants.Element}
-use Rattle.fb_access.specs.declared.{step.Step.TheVariants.Member, misfit.Misfit.Misfit, misfit.Fitted.Fitted, path_fault.PathFault.PathFault}
-use Rattle.fb_access.specs.declared.misfit.Misfit.TheVariants.{NoSuchField, NotIndexable, NotAUnion, NoSuchMember, NotATable}
-use Rattle.fb_access.specs.declared.path_fault.PathFault.TheVariants.{BadText, NoSuchField as NoSuchFieldAt, NotIndexable as NotIndexableAt}
-use Rattle.fb_access.specs.declared.path_fault.PathFault.TheVariants.{NotAUnion as NotAUnionAt, NoSuchMember as NoSuchMemberAt, NotATable as NotATableAt, OutOfMemory}
-use Rattle.fb_access.specs.Fitting.{element_kind}
-use Rattle.fb_access.specs.Grammar.{Part, field, element, member, number_of, IsReading, IsWrongAt}
+use Rattle.fb_access.specs.declared.{step.Step.Step, step.Step.TheVariants.Field, step.Step.TheVariants.Element, step.Step.TheVariants.Member, misfit.Misfit.Misfit}
+use Rattle.fb_access.specs.declared.{misfit.Fitted.Fitted, path_fault.PathFault.PathFault, misfit.Misfit.TheVariants.NoSuchField, misfit.Misfit.TheVariants.NotIndexable}
+use Rattle.fb_access.specs.declared.misfit.Misfit.TheVariants.{NotAUnion, NoSuchMember, NotATable}
+use Rattle.fb_access.specs.declared.path_fault.PathFault.TheVariants.{BadText, NoSuchField as NoSuchFieldAt, NotIndexable as NotIndexableAt, NotAUnion as NotAUnionAt}
+use Rattle.fb_access.specs.declared.path_fault.PathFault.TheVariants.{NoSuchMember as NoSuchMemberAt, NotATable as NotATableAt, OutOfMemory}
+use Rattle.fb_access.specs.{Fitting.element_kind, Grammar.Part, Grammar.field, Grammar.element, Grammar.member, Grammar.number_of, Grammar.IsReading, Grammar.IsWrongAt}
 
 -- the live field of table k with this name
 abbrev pub field_with_name : Rows → ℕ → List ℕ → Option Live

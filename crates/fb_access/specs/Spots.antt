@@ -1,14 +1,13 @@
 -- Where values stand: of a field that is present or absent, of an element of a vector, of a member of a union.
 use Rattle.std.specs.Prelude.{ℕ, ℤ, ◌+◌, ◌*◌, ◌==◌, nat_lt, Bool, true, false, if◌then◌else◌, List, Option, Some, None, option_map}
 use Rattle.fb_bytes.specs.Word.{word}
-use Rattle.fb_schema.specs.declared.{kinds.Kind.Kind, views.PartView.PartView}
-use Rattle.fb_schema.specs.declared.kinds.Kind.TheVariants.{Scalar as AScalar, Text, Struct, Table, Union, Scalars, Texts, Structs, Tables, Unions}
+use Rattle.fb_schema.specs.declared.{kinds.Kind.Kind, views.PartView.PartView, kinds.Kind.TheVariants.Scalar as AScalar, kinds.Kind.TheVariants.Text, kinds.Kind.TheVariants.Struct}
+use Rattle.fb_schema.specs.declared.kinds.Kind.TheVariants.{Table, Union, Scalars, Texts, Structs, Tables, Unions}
 use Rattle.fb_schema.specs.{Rows.Rows, Kinds.scalar_size, Kinds.struct_size, Live.Live, Members.member_of, Parts.part_at}
 use Rattle.fb_rules.specs.{Places.target, Places.field_place, Fields.type_place, Fields.union_type, Fields.types_begin}
-use Rattle.fb_access.specs.declared.spot.Spot.{Spot}
-use Rattle.fb_access.specs.declared.spot.Spot.TheVariants.{AtTable, AtInline, AtStruct, AtText, AtScalars, AtStructs, AtScalarArray, AtStructArray}
-use Rattle.fb_access.specs.declared.spot.Spot.TheVariants.{AtTexts, AtTables, AtUnions, AtUnion, AtDefault, AtAbsent, AtNoElement, AtOtherMember}
-use Rattle.fb_access.specs.Fitting.{numbered}
+use Rattle.fb_access.specs.declared.spot.Spot.{Spot, TheVariants.AtTable, TheVariants.AtInline, TheVariants.AtStruct, TheVariants.AtText, TheVariants.AtScalars}
+use Rattle.fb_access.specs.declared.spot.Spot.TheVariants.{AtStructs, AtScalarArray, AtStructArray, AtTexts, AtTables, AtUnions, AtUnion, AtDefault, AtAbsent, AtNoElement}
+use Rattle.fb_access.specs.{declared.spot.Spot.TheVariants.AtOtherMember, Fitting.numbered}
 
 -- the kind of what is here, none where nothing is
 abbrev pub kind_at : Spot → Option Kind

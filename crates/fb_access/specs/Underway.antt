@@ -1,7 +1,6 @@
 -- A part of a path: the steps that are taken, and those that are left.
 use Rattle.std.specs.Prelude.{ℕ, List}
-use Rattle.fb_schema.specs.declared.kinds.Kind.{Kind}
-use Rattle.fb_schema.specs.Rows.{Rows}
+use Rattle.fb_schema.specs.{declared.kinds.Kind.Kind, Rows.Rows}
 use Rattle.fb_access.specs.{Fitting.StepsFit, Denotes.Reaches, Here.IsOfKind, declared.step.Step.Step, declared.spot.Spot.Spot}
 
 -- the steps taken lead from the first spot to this one, and those that are left fit from here

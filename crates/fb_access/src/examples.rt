@@ -1,9 +1,8 @@
 //! Examples of the definitions: each is a clause of a function that does nothing.
 
-ghost use Rattle.fb_access.specs.PathTests.{Words, Spellings, Resolved, Unfit};
-ghost use Rattle.fb_access.specs.LocationTests.{Told, Nameless, Enclosed, Masked, Ways, Long};
-ghost use Rattle.fb_access.specs.Examples.{SampleUnfolds, FieldValues, ElementValues, PartValues, MemberValues, ScalarValues};
-ghost use Rattle.fb_access.specs.Examples.{DefaultValues, NearestSingles, StayingValues, LackingFields, PrefixedValues, InsideValues};
+ghost use Rattle.fb_access.specs.{PathTests.Words, PathTests.Spellings, PathTests.Resolved, PathTests.Unfit, LocationTests.Told, LocationTests.Nameless, LocationTests.Enclosed};
+ghost use Rattle.fb_access.specs.{LocationTests.Masked, LocationTests.Ways, LocationTests.Long, Examples.SampleUnfolds, Examples.FieldValues, Examples.ElementValues};
+ghost use Rattle.fb_access.specs.Examples.{PartValues, MemberValues, ScalarValues, DefaultValues, NearestSingles, StayingValues, LackingFields, PrefixedValues, InsideValues};
 
 /// A buffer with a field of each kind is good, and what paths denote in it.
 #[tactic(auto, using(crate::proofs::Shown::field_values, crate::proofs::Shown::element_values, crate::proofs::Shown::part_values, crate::proofs::Shown::member_values, crate::proofs::Shown::scalar_values, crate::proofs::Shown::default_values, crate::proofs::Shown::nearest_singles, crate::proofs::Shown::staying_values, crate::proofs::Shown::lacking_fields, crate::proofs::ShownTree::sample_unfolds))]

@@ -4,8 +4,7 @@ ghost use Rattle.std.specs.Prelude.{◌≡◌, ◌+◌, ◌-◌, ◌*◌, ◌^�
 ghost use Rattle.fb_bytes.specs.Word.{word};
 ghost use Rattle.fb_schema.specs.{Rows.is_table, Live.live_of_view};
 ghost use Rattle.fb_rules.specs.{Places.target, Places.vtable, Places.field_place, Fields.type_place, Fields.union_type, Fields.types_begin};
-ghost use Rattle.fb_access.specs.{Fitting.numbered, Held.HasVtable, Held.IsReadable, Known.known_spot};
-ghost use Rattle.fb_access.specs.Spots.{present_spot, absent_spot, field_spot};
+ghost use Rattle.fb_access.specs.{Fitting.numbered, Held.HasVtable, Held.IsReadable, Known.known_spot, Spots.present_spot, Spots.absent_spot, Spots.field_spot};
 
 use crate::known::KnownField;
 use crate::spot::Spot;

@@ -2,8 +2,7 @@
 
 ghost use Rattle.std.specs.Prelude.{◌≡◌, IsTrue, List, []};
 ghost use Rattle.fb_schema.specs.Rows.{is_table};
-ghost use Rattle.fb_access.specs.{Kept.IsThere, Resolving.Resolves};
-ghost use Rattle.fb_access.specs.declared.step.Step.{Step};
+ghost use Rattle.fb_access.specs.{Kept.IsThere, Resolving.Resolves, declared.step.Step.Step};
 
 use crate::alike::is_alike;
 use crate::misfit::Misfit;

@@ -3,9 +3,8 @@
 ghost use Rattle.std.specs.Prelude.{◌≡◌, ◌+◌, ◌≤◌, ◌++◌, ℕ, List, [], length, take, slice_get, codes, option_map, option_and_then, OnOk};
 ghost use Rattle.std.specs.List.{flat_map};
 ghost use Rattle.fb_schema.specs.Live.{live_of_view};
-ghost use Rattle.fb_access.specs.Fitting.{numbered};
-ghost use Rattle.fb_access.specs.Location.{name_byte, name_text, named, field_name, link_member, element_text, link_text};
-ghost use Rattle.fb_access.specs.Location.{mark_behind, path_text, place_text, whole_text, location_text, cut_to, filled};
+ghost use Rattle.fb_access.specs.{Fitting.numbered, Location.name_byte, Location.name_text, Location.named, Location.field_name, Location.link_member, Location.element_text};
+ghost use Rattle.fb_access.specs.Location.{link_text, mark_behind, path_text, place_text, whole_text, location_text, cut_to, filled};
 
 use crate::field::field_numbered;
 use arrayvec::ArrayVec;

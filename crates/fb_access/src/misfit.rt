@@ -2,8 +2,7 @@
 
 ghost use Rattle.std.specs.Prelude.{◌≡◌, IsTrue};
 ghost use Rattle.fb_schema.specs.Rows.{is_table, is_union};
-ghost use Rattle.fb_access.specs.{Grammar.Part, Cutting.IsPieceOf, Fitting.element_kind, Kept.IsThere};
-ghost use Rattle.fb_access.specs.Resolving.{fitting, field_step, member_step};
+ghost use Rattle.fb_access.specs.{Grammar.Part, Cutting.IsPieceOf, Fitting.element_kind, Kept.IsThere, Resolving.fitting, Resolving.field_step, Resolving.member_step};
 
 use crate::pieces::Piece;
 use crate::step::Step;

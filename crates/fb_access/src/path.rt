@@ -1,10 +1,8 @@
 // Paths: steps from a root table, written by names.
 
 ghost use Rattle.std.specs.Prelude.{◌≡◌, ◌∷◌, ℕ, IfOk, IfErr, IfSome, IsTrue};
-ghost use Rattle.fb_schema.specs.declared.kinds.Kind.{Kind};
-ghost use Rattle.fb_schema.specs.Rows.{Rows, is_table};
-ghost use Rattle.fb_access.specs.{Cutting.IsStuck, Fitting.StepsFit, Kept.IsThere};
-ghost use Rattle.fb_access.specs.Resolving.{IsFault, Resolves, Refuses, fault_of};
+ghost use Rattle.fb_schema.specs.{declared.kinds.Kind.Kind, Rows.Rows, Rows.is_table};
+ghost use Rattle.fb_access.specs.{Cutting.IsStuck, Fitting.StepsFit, Kept.IsThere, Resolving.IsFault, Resolving.Resolves, Resolving.Refuses, Resolving.fault_of};
 
 use crate::misfit::{Misfit, fit};
 use crate::path_fault::PathFault;

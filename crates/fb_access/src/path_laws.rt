@@ -2,8 +2,7 @@
 
 ghost use Rattle.std.specs.Prelude.{◌≡◌, ℕ, List, Result};
 ghost use Rattle.fb_schema.specs.Rows.{Rows};
-ghost use Rattle.fb_access.specs.declared.{path_fault.PathFault.PathFault, step.Step.Step};
-ghost use Rattle.fb_access.specs.{Grammar.Part, Grammar.IsReading, Resolving.IsAnswer, Resolving.PartsAreNamed};
+ghost use Rattle.fb_access.specs.{declared.path_fault.PathFault.PathFault, declared.step.Step.Step, Grammar.Part, Grammar.IsReading, Resolving.IsAnswer, Resolving.PartsAreNamed};
 
 /// A text is a name and parts in one way at most.
 pub fn text_has_one_reading()

@@ -3,10 +3,9 @@
 ghost use Rattle.std.specs.Prelude.{◌≡◌, ℕ, ◌+◌, ◌*◌, ◌≤◌, length, IfSome, IsTrue};
 ghost use Rattle.fb_schema.specs.declared.kinds.Kind.TheVariants.{Table as TableKind, Tables};
 ghost use Rattle.fb_rules.specs.WellFormed.{base};
-ghost use Rattle.fb_access.specs.{Fitting.StepsFit, Extents.extent};
-ghost use Rattle.fb_access.specs.Denotes.{Leads, allows, next_spot, root_spot, Denotes, value, shown, vector};
-ghost use Rattle.fb_access.specs.Here.{KindsGoOn, HereGoesOn, IsNarrow, IsHere};
-ghost use Rattle.fb_access.specs.{Known.HasKnown, Held.IsPlaced, Tested.IsSeen, declared.step.Step.TheVariants.Field};
+ghost use Rattle.fb_access.specs.{Fitting.StepsFit, Extents.extent, Denotes.Leads, Denotes.allows, Denotes.next_spot, Denotes.root_spot, Denotes.Denotes, Denotes.value};
+ghost use Rattle.fb_access.specs.{Denotes.shown, Denotes.vector, Here.KindsGoOn, Here.HereGoesOn, Here.IsNarrow, Here.IsHere, Known.HasKnown, Held.IsPlaced, Tested.IsSeen};
+ghost use Rattle.fb_access.specs.declared.step.Step.TheVariants.{Field};
 
 use crate::answer::Answer;
 use crate::extent::Extent;

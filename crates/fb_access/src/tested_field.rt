@@ -3,10 +3,9 @@
 
 ghost use Rattle.std.specs.Prelude.{◌≡◌, ◌+◌, ◌<◌, ◌≤◌, ◌^◌, length, IfSome, MatchResult};
 ghost use Rattle.fb_schema.specs.Live.{live_of_view};
-ghost use Rattle.fb_rules.specs.{Places.target, Places.vtable, Places.field_place, Fields.type_place, Fields.union_type, Fields.types_begin};
-ghost use Rattle.fb_rules.specs.OffsetRows.{TypeFits, TypesFit};
-ghost use Rattle.fb_access.specs.Held.{HasVtable, IsReadable};
-ghost use Rattle.fb_access.specs.Spots.{present_spot, field_spot};
+ghost use Rattle.fb_rules.specs.{Places.target, Places.vtable, Places.field_place, Fields.type_place, Fields.union_type, Fields.types_begin, OffsetRows.TypeFits};
+ghost use Rattle.fb_rules.specs.OffsetRows.{TypesFit};
+ghost use Rattle.fb_access.specs.{Held.HasVtable, Held.IsReadable, Spots.present_spot, Spots.field_spot};
 
 use crate::field::absent;
 use crate::spot::Spot;

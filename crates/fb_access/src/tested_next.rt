@@ -4,10 +4,9 @@ ghost use Rattle.std.specs.Prelude.{◌≡◌, ◌↔◌, ◌+◌, ◌*◌, ◌<
 ghost use Rattle.fb_bytes.specs.Word.{word};
 ghost use Rattle.fb_schema.specs.{Kinds.struct_size, Served.MemberHolds};
 ghost use Rattle.fb_rules.specs.{Fields.lead_of, Places.target};
-ghost use Rattle.fb_access.specs.Spots.{if_element, spot_of_field, spot_of_part, spot_of_element, spot_of_member, member_spot};
-ghost use Rattle.fb_access.specs.{Denotes.next_spot, Denotes.root_spot, Held.AreStructsFrom, Held.IsCounted, Held.IsSpot, Held.IsLed};
-ghost use Rattle.fb_access.specs.declared.spot.Spot.TheVariants.{AtUnion};
-ghost use Rattle.fb_access.specs.Tested.{IsLedTo, IsOther, IsTested};
+ghost use Rattle.fb_access.specs.{Spots.if_element, Spots.spot_of_field, Spots.spot_of_part, Spots.spot_of_element, Spots.spot_of_member, Spots.member_spot, Denotes.next_spot};
+ghost use Rattle.fb_access.specs.{Denotes.root_spot, Held.AreStructsFrom, Held.IsCounted, Held.IsSpot, Held.IsLed, declared.spot.Spot.TheVariants.AtUnion, Tested.IsLedTo};
+ghost use Rattle.fb_access.specs.Tested.{IsOther, IsTested};
 
 use crate::field::field_numbered;
 use crate::place::base_of;

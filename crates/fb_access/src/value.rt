@@ -3,8 +3,7 @@
 ghost use Rattle.std.specs.Prelude.{◌≡◌, ◌+◌, ◌*◌, ◌^◌, ◌%◌, ◌<◌, ◌≤◌, length};
 ghost use Rattle.fb_bytes.specs.Word.{word};
 ghost use Rattle.fb_schema.specs.Kinds.{scalar_size};
-ghost use Rattle.fb_access.specs.Denotes.{number, nearest_single, inline_value, default_value, shown};
-ghost use Rattle.fb_access.specs.Here.{FitsScalar};
+ghost use Rattle.fb_access.specs.{Denotes.number, Denotes.nearest_single, Denotes.inline_value, Denotes.default_value, Denotes.shown, Here.FitsScalar};
 
 use crate::answer::Answer;
 use fb_bytes::Window;

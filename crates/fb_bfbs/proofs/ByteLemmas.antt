@@ -1,18 +1,16 @@
 -- Fields of bytes, and their marks.
 use Rattle.std.proofs.Common.{◌≡◌, ℕ, ◌+◌, ◌<◌, ◌≤◌, true, false, Bool, List, [], ◌∷◌, ◌++◌, length, map, take, get_or, slice_get, Option, Some, None, option_map, refl, sym, ◌∙◌, ap, subst, arith, inl, inr, is_ok, Result, Ok, Err, Ordering, Less, Equal, Greater}
 use Rattle.std.specs.Prelude.{◌==◌, ◌&&◌, ◌||◌, not, IfNone, IfSome, IsSorted, IsPermutation}
-use Rattle.std.proofs.lemmas.{Cmp.nat_cmp_total, Cmp.on_total, Cmp.then_total, Cmp.tied_itself, List.length-map, List.map-append, Grind.take_at_read, Option.get_or_from_slice_get, Option.slice_get-map, Option.slice_get_within}
-use Rattle.std.proofs.lemmas.{Bool.Decides.Decides-eqb, List.Folds.list_any-append, List.Folds.list_any_at, List.Folds.list_any_none, List.Sorted.list_any-IsPermutation}
-use Rattle.std.proofs.Math.Seq.{take-length}
-use Rattle.std.specs.{Cmp.IsTotalOrder, List.list_any}
-use Rattle.std.specs.List.Sorted.{IsSortedBy, IsNonDecreasingBy, IsPartitionPoint, IsBinarySearchResult, IsSearchInRange}
-use Rattle.std.specs.Ordering.{nat_cmp, is_lt, ordering_index, ordering_then}
-use Rattle.fb_schema.specs.declared.views.FieldView.{FieldView}
-use Rattle.fb_schema.specs.{Live.Live, Live.live_fields, Live.live_in, Live.live_of_view, Rows.Object, Rows.Rows, Rows.is_some_table, Rows.is_table, Served.IsServed}
+use Rattle.std.proofs.lemmas.{Cmp.nat_cmp_total, Cmp.on_total, Cmp.then_total, Cmp.tied_itself, List.length-map, List.map-append, Grind.take_at_read, Option.get_or_from_slice_get}
+use Rattle.std.proofs.lemmas.{Option.slice_get-map, Option.slice_get_within, Bool.Decides.Decides-eqb, List.Folds.list_any-append, List.Folds.list_any_at, List.Folds.list_any_none}
+use Rattle.std.proofs.{lemmas.List.Sorted.list_any-IsPermutation, Math.Seq.take-length}
+use Rattle.std.specs.{Cmp.IsTotalOrder, List.list_any, List.Sorted.IsSortedBy, List.Sorted.IsNonDecreasingBy, List.Sorted.IsPartitionPoint, List.Sorted.IsBinarySearchResult}
+use Rattle.std.specs.{List.Sorted.IsSearchInRange, Ordering.nat_cmp, Ordering.is_lt, Ordering.ordering_index, Ordering.ordering_then}
+use Rattle.fb_schema.specs.{declared.views.FieldView.FieldView, Live.Live, Live.live_fields, Live.live_in, Live.live_of_view, Rows.Object, Rows.Rows, Rows.is_some_table}
+use Rattle.fb_schema.specs.{Rows.is_table, Served.IsServed}
 use Rattle.fb_schema.proofs.{Numbers.lt_or_eq, Numbers.neither_below, Numbers.slice_get_some, Search.nat_tied, Search.not_true, Search.search_missed}
-use Rattle.fb_bfbs.specs.Marks.{Marked, marked}
-use Rattle.fb_bfbs.specs.declared.{byte_fields.ByteField.ByteField, marks.Builtins.Builtins, marks.Mark.Mark}
-use Rattle.fb_bfbs.specs.ByteFields.{HasUnmarked, IsField, IsUnmarked, are_written, has_mark, is_at, is_bytes, is_unmarked}
+use Rattle.fb_bfbs.specs.{Marks.Marked, Marks.marked, declared.byte_fields.ByteField.ByteField, declared.marks.Builtins.Builtins, declared.marks.Mark.Mark, ByteFields.HasUnmarked}
+use Rattle.fb_bfbs.specs.ByteFields.{IsField, IsUnmarked, are_written, has_mark, is_at, is_bytes, is_unmarked}
 use Rattle.fb_bfbs.specs.MarkedSlots.{AreSlots, has_slot, is_slotless, slot_cmp}
 
 -- Two tests.

@@ -1,14 +1,12 @@
 -- What is seen from a place is seen from the place before it, one step further on.
 use Rattle.std.proofs.Common.{◌≡◌, ℕ, ℤ, Bool, true, false, zero, suc, ◌*◌, ◌≤◌, All, List, [], ◌∷◌, ◌++◌, map, length, refl, sym, Some, inl, inr}
 use Rattle.std.specs.Prelude.{slice_get}
-use Rattle.std.proofs.lemmas.{List.length-map, List.Elements.All-push}
-use Rattle.fb_access.specs.declared.{step.Step.Step, step.Step.TheVariants.Field as ToField, step.Step.TheVariants.Element}
-use Rattle.fb_access.specs.Held.{Placed}
-use Rattle.fb_access.specs.Denotes.{Shown, vector, Leads, value}
-use Rattle.fb_bfbs.specs.Says.{Says, after, AreRows, HasDouble}
-use Rattle.fb_bfbs.specs.Seen.{seen, Within, behind, IsRowAt}
-use Rattle.fb_bfbs.specs.Describes.{IsTypeRow, IsDefault, is_float, IsFieldRow, IsObjectRow, IsTypeOrNone, IsMemberRow, IsEnumRow}
-use Rattle.fb_bfbs.specs.Marks.{IsTextOrEmpty, IsAttribute, AreAttributes, IsAttributed, IsTagged, AreTagged}
+use Rattle.std.proofs.lemmas.List.{length-map, Elements.All-push}
+use Rattle.fb_access.specs.{declared.step.Step.Step, declared.step.Step.TheVariants.Field as ToField, declared.step.Step.TheVariants.Element, Held.Placed, Denotes.Shown}
+use Rattle.fb_access.specs.Denotes.{vector, Leads, value}
+use Rattle.fb_bfbs.specs.{Says.Says, Says.after, Says.AreRows, Says.HasDouble, Seen.seen, Seen.Within, Seen.behind, Seen.IsRowAt, Describes.IsTypeRow, Describes.IsDefault}
+use Rattle.fb_bfbs.specs.{Describes.is_float, Describes.IsFieldRow, Describes.IsObjectRow, Describes.IsTypeOrNone, Describes.IsMemberRow, Describes.IsEnumRow, Marks.IsTextOrEmpty}
+use Rattle.fb_bfbs.specs.Marks.{IsAttribute, AreAttributes, IsAttributed, IsTagged, AreTagged}
 
 -- what such rows say is kept by what says more
 abbrev pub Carries : {R : Type 0} → (Says → R → Type 0) → Type 1

@@ -1,14 +1,13 @@
 -- How many rows a schema file says that it has, and how many it describes.
 use Rattle.std.proofs.Common.{◌≡◌, ℕ, ◌+◌, ◌-◌, ◌≤◌, ◌<◌, ◌↔◌, Bool, true, false, nat_le, IsTrue, List, [], ◌∷◌, map, length, refl, sym, ◌∙◌, ap, subst, arith}
-use Rattle.std.proofs.lemmas.Bool.{false≢true, Decides.nat_tests}
-use Rattle.fb_schema.specs.declared.kinds.Kind.TheVariants.{Tables}
+use Rattle.std.proofs.lemmas.{Bool.false≢true, Bool.Decides.nat_tests, List.Sums.sum_by-cons}
+use Rattle.fb_schema.specs.{declared.kinds.Kind.TheVariants.Tables, Rows.Object, Rows.Enum, Rows.Rows}
 use Rattle.std.specs.List.{sum_by}
-use Rattle.std.proofs.lemmas.List.Sums.{sum_by-cons}
-use Rattle.fb_schema.specs.Rows.{Object, Enum, Rows}
 use Rattle.fb_access.specs.{Denotes.Leads, Denotes.value, Denotes.vector, Held.Placed, declared.step.Step.TheVariants.Field as ToField, declared.step.Step.TheVariants.Element}
-use Rattle.fb_bfbs.specs.{Says.Says, Says.after, Says.AreRows, Describes.IsObjectRow, Describes.IsEnumRow, Describes.Describes, Seen.IsRowAt, Seen.AreRowsAt, Seen.IsListOfLists, Seen.HasField, Seen.seen}
-use Rattle.fb_bfbs.specs.Sums.{rows_count, Lists, listed_rows, HasRows, IsToldFew, IsPaid, ArePaid, most_rows}
-use Rattle.fb_bfbs.proofs.{FixedFields.always, Sure.at_element, Composed.mapped_rows, Composed.row_here, Composed.seen_in, Composed.seen_after, OneFile.IsSingle, OneFile.IsOnly, OneFile.only_rows}
+use Rattle.fb_bfbs.specs.{Says.Says, Says.after, Says.AreRows, Describes.IsObjectRow, Describes.IsEnumRow, Describes.Describes, Seen.IsRowAt, Seen.AreRowsAt, Seen.IsListOfLists}
+use Rattle.fb_bfbs.specs.{Seen.HasField, Seen.seen, Sums.rows_count, Sums.Lists, Sums.listed_rows, Sums.HasRows, Sums.IsToldFew, Sums.IsPaid, Sums.ArePaid, Sums.most_rows}
+use Rattle.fb_bfbs.proofs.{FixedFields.always, Sure.at_element, Composed.mapped_rows, Composed.row_here, Composed.seen_in, Composed.seen_after, OneFile.IsSingle, OneFile.IsOnly}
+use Rattle.fb_bfbs.proofs.OneFile.{only_rows}
 
 abbrev fields_of : Object → ℕ
 fields_of o = length o.fields

@@ -3,9 +3,8 @@ use Rattle.std.proofs.Common.{◌≡◌, ◌<◌, ◌^◌, zero, suc, true, nat_
 use Rattle.std.proofs.lemmas.{List.length-map, Bool.ltb-true, Bool.and_parts}
 use Rattle.std.specs.List.{list_all}
 use Rattle.fb_schema.specs.declared.{rows.ObjectRow.ObjectRow, rows.EnumRow.EnumRow, fault.Code.TheVariants.OutOfMemory, fault.SchemaFault.SchemaFault}
-use Rattle.fb_schema.specs.Rows.{Rows, AreFew, field_of, object_of, enum_of, rows_of}
-use Rattle.fb_schema.specs.Kinds.{base_types, shape_of, kind_of}
-use Rattle.fb_schema.specs.Demands.{IsLegal, Refuses, names_no_object, names_table, names_no_union, inline_bytes}
+use Rattle.fb_schema.specs.{Rows.Rows, Rows.AreFew, Rows.field_of, Rows.object_of, Rows.enum_of, Rows.rows_of, Kinds.base_types, Kinds.shape_of, Kinds.kind_of, Demands.IsLegal}
+use Rattle.fb_schema.specs.Demands.{Refuses, names_no_object, names_table, names_no_union, inline_bytes}
 use Rattle.fb_schema.proofs.DemandLaws.{no_first_if_legal, levels_end, owners_end, places_end, object_end, enum_end}
 use Rattle.fb_schema.proofs.Judged.{first_below, or_at, in_owner, in_level, in_rows, first_fault, legal}
 use Rattle.fb_bfbs.specs.Fixed.{fixed}

@@ -1,12 +1,12 @@
 -- What is known of the fields of the fixed table: each has the slot of its number, none is optional, and all but an Int
 -- have the default 0.
-use Rattle.std.proofs.Common.{◌≡◌, ℕ, zero, suc, ℤ, pos, ◌+◌, ◌*◌, ◌<◌, ◌==◌, ◌&&◌, nat_lt, Bool, true, false, not, List, [], ◌∷◌, slice_get, Option, Some, None, refl, sym, ◌∙◌, ap, subst, arith}
+use Rattle.std.proofs.Common.{◌≡◌, ℕ, zero, suc, ℤ, pos, ◌+◌, ◌*◌, ◌<◌, ◌==◌, ◌&&◌, nat_lt, Bool, true, false, not, List, [], ◌∷◌, slice_get, Option, Some, None, refl, sym, ◌∙◌, ap, subst}
 use Rattle.std.specs.{Prelude.option_map, Prelude.option_and_then, List.list_all, Cmp.signed_Decides, Ordering.int_eq}
 use Rattle.std.proofs.lemmas.Bool.{and_parts, ltb-true, Decides.Decides-eqb}
-use Rattle.fb_schema.specs.{Rows.Object, Live.Live, Live.live_fields, Live.live_in}
-use Rattle.fb_access.specs.declared.known.KnownField.{KnownField}
-use Rattle.fb_schema.specs.{declared.kinds.Kind.Kind, declared.kinds.Kind.TheVariants.Scalar, declared.kinds.Kind.TheVariants.Table, declared.kinds.Scalar.TheVariants.Int}
-use Rattle.fb_access.specs.{Held.Placed, Fitting.numbered, Fitting.next_kind, Here.sure_field, Here.sure_kind, Known.known_of, Known.HasKnown}
+use Rattle.fb_schema.specs.{Rows.Object, Live.Live, Live.live_fields, Live.live_in, declared.kinds.Kind.Kind, declared.kinds.Kind.TheVariants.Scalar}
+use Rattle.fb_schema.specs.declared.kinds.{Kind.TheVariants.Table, Scalar.TheVariants.Int}
+use Rattle.fb_access.specs.{declared.known.KnownField.KnownField, Held.Placed, Fitting.numbered, Fitting.next_kind, Here.sure_field, Here.sure_kind, Known.known_of, Known.HasKnown}
+use Rattle.fb_schema.proofs.Numbers.{negated}
 use Rattle.fb_access.proofs.{Found.found_there, Sure.sure_kind_of}
 use Rattle.fb_bfbs.specs.{Fixed.fixed, Seen.IsAt, Seen.HasField, Seen.HasInt, Seen.IsKnown, Seen.MayHaveField}
 use Rattle.fb_bfbs.proofs.FixedFields.{computing}
@@ -40,9 +40,6 @@ record IsPlain (n : ℕ) (f : Live) : Type 0 where
   optional : f.optional ≡ false
   default : is_zero f.kind f.default ≡ true
 
-not_true : (b : Bool) → not b ≡ true → b ≡ false
-not_true b e = grind arith
-
 plain : (k n : ℕ) (f : Live) → numbered fixed k n ≡ Some f → IsPlain n f
 unfolding live_fields is_plain
 plain k n f e =
@@ -55,7 +52,7 @@ plain k n f e =
       number = number;
       slot = (Decides-eqb f.slot (4 + 2 * f.number)).0 parts.0 ∙ ap (λ m. 4 + 2 * m) number;
       few = subst (λ m. m < 16) number (ltb-true _ _ few.0);
-      optional = not_true f.optional rest.0;
+      optional = negated f.optional rest.0;
       default = rest.1;
     }
 

@@ -5,16 +5,15 @@ use Rattle.fb_schema.specs.{Rows.Rows, Rows.table_named, Demands.IsLegal, Demand
 use Rattle.fb_schema.proofs.DemandLaws.{one_first, no_first_if_legal}
 use Rattle.fb_rules.specs.{Bounds.Bounds, Stops.Stops, declared.fault.Fault.Fault, declared.start.Start.TheVariants.Bare}
 use Rattle.fb_rules.proofs.{OneFault.stops_once, Overruns.stops_nowhere}
-use Rattle.fb_access.specs.declared.{step.Step.TheVariants.Field as ToField, spot.Spot.Spot, spot.Spot.TheVariants.AtAbsent}
-use Rattle.fb_access.specs.Denotes.{Leads, next_spot, root_spot, text, nothing, value}
+use Rattle.fb_access.specs.{declared.step.Step.TheVariants.Field as ToField, declared.spot.Spot.Spot, declared.spot.Spot.TheVariants.AtAbsent, Denotes.Leads, Denotes.next_spot}
+use Rattle.fb_access.specs.Denotes.{root_spot, text, nothing, value}
 use Rattle.fb_access.proofs.Callers.{shows_one}
 use Rattle.fb_bfbs.specs.declared.load_fault.LoadFault.TheVariants.{NotWellFormed, BadSchema, RootNotListed, OutOfMemory, TooLong, TooMuchShared}
 use Rattle.fb_bfbs.specs.{Fixed.fixed, Says.text_or_nothing, Sums.IsOver, Sums.names_length, declared.loading.Loaded.Loaded, declared.load_fault.LoadFault.LoadFault}
-use Rattle.fb_bfbs.specs.Describes.{Describes, NamesRoot, IsRoot, HasStrayRoot}
-use Rattle.fb_bfbs.specs.Loads.{asked_within, ArePaidFor, SharesTooMuch, IsSchemaFile, IsBadSchema, IsLoaded, told, schema_number}
-use Rattle.fb_bfbs.specs.LoadLaws.{DescribesOnce, ident_bytes, IsSameLoad, IsSameAnswer, Applies}
-use Rattle.fb_bfbs.proofs.Counts.{counted}
-use Rattle.fb_bfbs.proofs.OneFile.{IsSingle, describes_once, one_text, text_is_something}
+use Rattle.fb_bfbs.specs.{Describes.Describes, Describes.NamesRoot, Describes.IsRoot, Describes.HasStrayRoot, Loads.asked_within, Loads.ArePaidFor, Loads.SharesTooMuch}
+use Rattle.fb_bfbs.specs.{Loads.IsSchemaFile, Loads.IsBadSchema, Loads.IsLoaded, Loads.told, Loads.schema_number, LoadLaws.DescribesOnce, LoadLaws.ident_bytes, LoadLaws.IsSameLoad}
+use Rattle.fb_bfbs.specs.LoadLaws.{IsSameAnswer, Applies}
+use Rattle.fb_bfbs.proofs.{Counts.counted, OneFile.IsSingle, OneFile.describes_once, OneFile.one_text, OneFile.text_is_something}
 
 -- a file says one thing of each path
 pub file_is_single : (b : List ℕ) → IsSingle (told b)

@@ -1,11 +1,10 @@
 -- A schema file says one list of marks.
 use Rattle.std.proofs.Common.{List, [], length, map, sym, ◌∙◌, ap, inl, inr}
-use Rattle.fb_access.specs.declared.step.Step.{TheVariants.Field as ToField}
-use Rattle.fb_access.specs.Denotes.{nothing, vector}
-use Rattle.fb_bfbs.specs.{Says.Says, Says.after, Loads.told}
-use Rattle.fb_bfbs.specs.Marks.{Attribute, IsTextOrEmpty, IsAttribute, AreAttributes, IsAttributed, held_in, told_by, IsTagged, AreTagged, marks_from, together, told_in, MarksOnce}
-use Rattle.fb_bfbs.proofs.{OneLoad.file_is_single}
-use Rattle.fb_bfbs.proofs.OneFile.{IsSingle, IsOnly, single_after, only_rows, one_truth, one_unsigned, one_text, text_is_something}
+use Rattle.fb_access.specs.{declared.step.Step.TheVariants.Field as ToField, Denotes.nothing, Denotes.vector}
+use Rattle.fb_bfbs.specs.{Says.Says, Says.after, Loads.told, Marks.Attribute, Marks.IsTextOrEmpty, Marks.IsAttribute, Marks.AreAttributes, Marks.IsAttributed, Marks.held_in}
+use Rattle.fb_bfbs.specs.Marks.{told_by, IsTagged, AreTagged, marks_from, together, told_in, MarksOnce}
+use Rattle.fb_bfbs.proofs.{OneLoad.file_is_single, OneFile.IsSingle, OneFile.IsOnly, OneFile.single_after, OneFile.only_rows, OneFile.one_truth, OneFile.one_unsigned}
+use Rattle.fb_bfbs.proofs.OneFile.{one_text, text_is_something}
 
 only_text : IsOnly IsTextOrEmpty
 only_text D r s h (inl a) (inl b) = one_text D h [] a b

@@ -1,6 +1,5 @@
 -- From what was read to what is answered.
-use Rattle.std.proofs.Common.{◌≡◌, ℕ, List, length, Option, Some, None, Result, Ok, Err, IfErr, option_map, is_some, IsSome, true, false, refl, sym, ◌∙◌, ap, subst, inl, inr}
-use Rattle.std.specs.Result.{IsErrAnd}
+use Rattle.std.proofs.Common.{◌≡◌, ℕ, List, length, Option, Some, None, option_map, is_some, IsSome, true, false, refl, sym, ◌∙◌, ap, subst, inl, inr}
 use Rattle.fb_schema.specs.{Rows.rows_of, Demands.Refuses, declared.fault.Code.Code, declared.fault.Code.TheVariants.OutOfMemory as NoMemory, declared.fault.SchemaFault.SchemaFault}
 use Rattle.fb_rules.specs.{Bounds.Bounds}
 use Rattle.fb_verify.specs.Sealed.{Sealed}
@@ -10,11 +9,6 @@ use Rattle.fb_bfbs.specs.declared.{file.FileRows.FileRows, marks.Marks.Marks, lo
 use Rattle.fb_bfbs.specs.Loads.{SharesTooMuch, IsSchemaFile, IsLoadFault, build_fault, told}
 use Rattle.fb_bfbs.specs.{Marks.HasFewRows, Marks.HasManyRows, Marks.HasTooManyRows, Marks.AreMarks, Marks.IsMarksFault, Tags.AreToldMarks, Tags.AreMarksRead}
 use Rattle.fb_bfbs.proofs.{Counts.paid_rows, OneLoad.file_is_single}
-
--- the exit of a `?`
-pub if_err_exit : {A E : Type 0} (r : Result A E) (x : E) (P : E → Type 0) → IsErrAnd r (λ e. e ≡ x) → P x → IfErr r P
-if_err_exit (Ok a) x P h p = tt
-if_err_exit (Err e) x P h p = subst P (sym h) p
 
 module _ (b : List ℕ) (L : Bounds) where
   -- rows that are refused are no schema, or memory ran out

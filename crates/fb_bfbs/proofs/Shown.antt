@@ -4,10 +4,9 @@ use Rattle.std.specs.Prelude.{slice_get}
 use Rattle.fb_bytes.specs.Word.{word}
 use Rattle.fb_schema.specs.{Rows.Field, Rows.Object, Rows.Enum, Kinds.shape_of, Kinds.kind_of, Kinds.base_types, Live.live_fields, declared.rows.TypeRow.TypeRow}
 use Rattle.fb_rules.specs.Places.{has_vtable, vtable, field_place}
-use Rattle.fb_access.specs.declared.{step.Step.Step, step.Step.TheVariants.Field as ToField, step.Step.TheVariants.Element, spot.Spot.Spot}
-use Rattle.fb_access.specs.declared.spot.Spot.TheVariants.{AtTable, AtTables}
-use Rattle.fb_access.specs.Spots.{present_spot, absent_spot, spot_of_element, member_spot}
-use Rattle.fb_access.specs.Denotes.{Shown, Leads, next_spot, truth, signed, unsigned, text, vector, number, inline_value, default_value, value}
+use Rattle.fb_access.specs.declared.{step.Step.Step, step.Step.TheVariants.Field as ToField, step.Step.TheVariants.Element, spot.Spot.Spot, spot.Spot.TheVariants.AtTable}
+use Rattle.fb_access.specs.{declared.spot.Spot.TheVariants.AtTables, Spots.present_spot, Spots.absent_spot, Spots.spot_of_element, Spots.member_spot, Denotes.Shown, Denotes.Leads}
+use Rattle.fb_access.specs.Denotes.{next_spot, truth, signed, unsigned, text, vector, number, inline_value, default_value, value}
 use Rattle.fb_access.specs.Here.{Shows}
 use Rattle.fb_access.proofs.StepLaws.{some_same}
 use Rattle.fb_bfbs.specs.{Fixed.fixed, Says.Says, Says.after, Says.AreRows, Says.IsDouble, Says.HasDouble, Loads.told, Examples.RealFile, Examples.DetailedFile}

@@ -3,12 +3,11 @@ use Rattle.std.proofs.Common.{◌≡◌, ℕ, List, [], ◌∷◌, true, refl, S
 use Rattle.std.specs.Prelude.{codes}
 use Rattle.fb_access.specs.declared.{step.Step.TheVariants.Field as ToField, step.Step.TheVariants.Element, spot.Spot.TheVariants.AtTable, spot.Spot.TheVariants.AtTables}
 use Rattle.fb_access.specs.Denotes.{nothing, text}
-use Rattle.fb_bfbs.specs.{Says.AreRows, Samples.marking}
-use Rattle.fb_bfbs.specs.declared.marks.{Builtins.TheVariants.Written, Builtins.TheVariants.LeftOut}
-use Rattle.fb_bfbs.specs.Marks.{Attribute, Attributed, Tagged, IsAttribute, IsAttributed, IsTagged, AreTagged, buffer}
-use Rattle.fb_bfbs.specs.Examples.{attribute, nested, required, with_attributes, WorkedFields, MarkedFile}
-use Rattle.fb_bfbs.proofs.Composed.{attribute_within, tagged_within, fields_within, rows_within}
-use Rattle.fb_bfbs.proofs.Shown.{computing, From, onward, told_by, said, some_rows, two_rows}
+use Rattle.fb_bfbs.specs.{Says.AreRows, Samples.marking, declared.marks.Builtins.TheVariants.Written, declared.marks.Builtins.TheVariants.LeftOut, Marks.Attribute}
+use Rattle.fb_bfbs.specs.{Marks.Attributed, Marks.Tagged, Marks.IsAttribute, Marks.IsAttributed, Marks.IsTagged, Marks.AreTagged, Marks.buffer, Examples.attribute, Examples.nested}
+use Rattle.fb_bfbs.specs.Examples.{required, with_attributes, WorkedFields, MarkedFile}
+use Rattle.fb_bfbs.proofs.{Composed.attribute_within, Composed.tagged_within, Composed.fields_within, Composed.rows_within, Shown.computing, Shown.From, Shown.onward}
+use Rattle.fb_bfbs.proofs.Shown.{told_by, said, some_rows, two_rows}
 
 pub worked_fields : WorkedFields
 worked_fields = record { none = refl; table = refl; flexbuffer = refl; both = refl; deprecated = refl; untold = refl; left_out = refl; written = refl }

@@ -1,13 +1,11 @@
 -- The steps that a place in a schema file has, and what they lead to.
 use Rattle.std.proofs.Common.{◌≡◌, ℕ, ◌<◌, List, refl, ◌∙◌, IsTrue}
-use Rattle.fb_schema.specs.declared.{kinds.Kind.Kind, kinds.Kind.TheVariants.Table, kinds.Kind.TheVariants.Tables}
-use Rattle.fb_schema.specs.Rows.{Rows}
+use Rattle.fb_schema.specs.{declared.kinds.Kind.Kind, declared.kinds.Kind.TheVariants.Table, declared.kinds.Kind.TheVariants.Tables, Rows.Rows}
 use Rattle.fb_access.specs.declared.{step.Step.TheVariants.Field as ToField, step.Step.TheVariants.Element, spot.Spot.Spot, spot.Spot.TheVariants.AtTable}
-use Rattle.fb_access.specs.{Fitting.next_kind, Held.Placed, Here.IsHere, Here.MayBeHere, Here.HereGoesOn, Denotes.Leads, Denotes.allows, Denotes.nothing, Denotes.table, Denotes.vector, Denotes.value}
-use Rattle.fb_access.proofs.Shapes.{is_here}
-use Rattle.fb_access.proofs.Callers.{here_allows, field_may_be_here, element_is_here}
-use Rattle.fb_bfbs.specs.Fixed.{fixed}
-use Rattle.fb_bfbs.specs.Seen.{IsAt, HasField, MayHaveField, IsOneOn}
+use Rattle.fb_access.specs.{Fitting.next_kind, Held.Placed, Here.IsHere, Here.MayBeHere, Here.HereGoesOn, Denotes.Leads, Denotes.allows, Denotes.nothing, Denotes.table}
+use Rattle.fb_access.specs.Denotes.{vector, value}
+use Rattle.fb_access.proofs.{Shapes.is_here, Callers.here_allows, Callers.field_may_be_here, Callers.element_is_here}
+use Rattle.fb_bfbs.specs.{Fixed.fixed, Seen.IsAt, Seen.HasField, Seen.MayHaveField, Seen.IsOneOn}
 
 -- a field that is always there
 pub field_here : (p : Placed) (n : ℕ) (kind : Kind) (q : Spot) → HasField p n kind → HereGoesOn (p.sealed).schema p.spot (ToField n) q → IsHere q kind

@@ -1,12 +1,9 @@
 -- Fields of bytes, and whether a schema file says what each of them holds.
 use Rattle.std.specs.Prelude.{◌≡◌, ◌==◌, ◌&&◌, not, ℕ, Bool, true, false, List, slice_get, Option, Some, None}
 use Rattle.std.specs.List.{list_any}
-use Rattle.fb_schema.specs.declared.kinds.Kind.{Kind}
-use Rattle.fb_schema.specs.declared.kinds.Kind.TheVariants.{Scalars}
-use Rattle.fb_schema.specs.declared.kinds.Scalar.TheVariants.{UByte}
-use Rattle.fb_schema.specs.{Live.Live, Live.live_fields, Live.live_of_view, Rows.Rows}
-use Rattle.fb_bfbs.specs.Marks.{Marked}
-use Rattle.fb_bfbs.specs.declared.{byte_fields.ByteField.ByteField, marks.Builtins.Builtins, marks.Builtins.TheVariants.Written}
+use Rattle.fb_schema.specs.{declared.kinds.Kind.Kind, declared.kinds.Kind.TheVariants.Scalars, declared.kinds.Scalar.TheVariants.UByte, Live.Live, Live.live_fields}
+use Rattle.fb_schema.specs.{Live.live_of_view, Rows.Rows}
+use Rattle.fb_bfbs.specs.{Marks.Marked, declared.byte_fields.ByteField.ByteField, declared.marks.Builtins.Builtins, declared.marks.Builtins.TheVariants.Written}
 
 -- a field of this kind is of bytes: a vector of ubyte
 abbrev pub is_bytes : Kind → Bool

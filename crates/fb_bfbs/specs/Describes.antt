@@ -1,12 +1,9 @@
 -- What the rows of a schema file are: each is what the paths of its table lead to, by the field numbers of
 -- reflection.fbs.
 use Rattle.std.specs.Prelude.{◌≡◌, ℕ, ℤ, pos, negsuc, Bool, true, false, ◌||◌, List, [], ◌∷◌, ◌⊎◌, Option, Some, None}
-use Rattle.std.specs.Borrow.{Bor}
-use Rattle.std.specs.{Int.cast_signed, Int.w64, Ordering.int_eq}
-use Rattle.fb_schema.specs.declared.rows.TypeRow.{TypeRow}
-use Rattle.fb_schema.specs.Rows.{Field, Object, Member, Enum, Rows, table_named}
-use Rattle.fb_access.specs.declared.step.Step.TheVariants.{Field as ToField}
-use Rattle.fb_access.specs.Denotes.{nothing, truth, signed, unsigned, text, table}
+use Rattle.std.specs.{Borrow.Bor, Int.cast_signed, Int.w64, Ordering.int_eq}
+use Rattle.fb_schema.specs.{declared.rows.TypeRow.TypeRow, Rows.Field, Rows.Object, Rows.Member, Rows.Enum, Rows.Rows, Rows.table_named}
+use Rattle.fb_access.specs.{declared.step.Step.TheVariants.Field as ToField, Denotes.nothing, Denotes.truth, Denotes.signed, Denotes.unsigned, Denotes.text, Denotes.table}
 use Rattle.fb_bfbs.specs.Says.{Says, after, AreRows, HasDouble}
 
 -- a table Type

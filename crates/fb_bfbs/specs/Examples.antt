@@ -1,12 +1,10 @@
 -- Examples of schema files: what they describe, what is loaded of them, and what their attributes say.
 use Rattle.std.specs.Prelude.{◌≡◌, ℕ, true, false, List, [], ◌∷◌, codes, Some, None}
-use Rattle.fb_access.specs.declared.step.Step.TheVariants.{Field as ToField}
-use Rattle.fb_access.specs.Denotes.{text}
+use Rattle.fb_access.specs.{declared.step.Step.TheVariants.Field as ToField, Denotes.text}
 use Rattle.fb_rules.specs.Samples.{published_limits}
-use Rattle.fb_bfbs.specs.{Describes.Describes, Describes.IsRoot, Loads.told, Loads.IsLoaded, Samples.plain, Samples.plain_rows}
-use Rattle.fb_bfbs.specs.{Samples.reals, Samples.real_rows, Samples.detailed, Samples.detailed_rows, Samples.marking}
-use Rattle.fb_bfbs.specs.declared.marks.{Builtins.TheVariants.Written, Builtins.TheVariants.LeftOut, Builtins.TheVariants.Untold}
-use Rattle.fb_bfbs.specs.Marks.{Attribute, Attributed, buffer, flex, held_in, told_by, SaysMarks}
+use Rattle.fb_bfbs.specs.{Describes.Describes, Describes.IsRoot, Loads.told, Loads.IsLoaded, Samples.plain, Samples.plain_rows, Samples.reals, Samples.real_rows, Samples.detailed}
+use Rattle.fb_bfbs.specs.{Samples.detailed_rows, Samples.marking, declared.marks.Builtins.TheVariants.Written, declared.marks.Builtins.TheVariants.LeftOut}
+use Rattle.fb_bfbs.specs.{declared.marks.Builtins.TheVariants.Untold, Marks.Attribute, Marks.Attributed, Marks.buffer, Marks.flex, Marks.held_in, Marks.told_by, Marks.SaysMarks}
 
 -- a file with one table, which is its root: a default, and nothing else that could be absent
 pub record PlainFile : Type 0 where

@@ -4,10 +4,9 @@ use Rattle.fb_schema.specs.Rows.{AreFew, rows_of}
 use Rattle.fb_rules.specs.{Bounds.Bounds, Stops.Stops, Verdict.Reports, declared.start.Start.TheVariants.Bare}
 use Rattle.fb_verify.specs.Sealed.{Sealed}
 use Rattle.fb_access.specs.declared.step.Step.TheVariants.{Field as ToField}
-use Rattle.fb_bfbs.specs.declared.{file.FileRows.FileRows, load_fault.LoadFault.LoadFault}
-use Rattle.fb_bfbs.specs.declared.load_fault.LoadFault.TheVariants.{NotWellFormed, OutOfMemory}
-use Rattle.fb_bfbs.specs.{Says.Says, Says.text_or_nothing, Describes.Describes, Describes.IsRootName, Sums.IsOver, Sums.ArePaid, Fixed.fixed}
-use Rattle.fb_bfbs.specs.Loads.{IsSchemaFile, ArePaidFor, asked_within, published, schema_number, told}
+use Rattle.fb_bfbs.specs.declared.{file.FileRows.FileRows, load_fault.LoadFault.LoadFault, load_fault.LoadFault.TheVariants.NotWellFormed}
+use Rattle.fb_bfbs.specs.{declared.load_fault.LoadFault.TheVariants.OutOfMemory, Says.Says, Says.text_or_nothing, Describes.Describes, Describes.IsRootName, Sums.IsOver}
+use Rattle.fb_bfbs.specs.{Sums.ArePaid, Fixed.fixed, Loads.IsSchemaFile, Loads.ArePaidFor, Loads.asked_within, Loads.published, Loads.schema_number, Loads.told}
 
 -- the file says that these are its rows, its root table's name and its identifier, and the rows are few
 pub record IsTold (D : Says) (f : FileRows) : Type 0 where

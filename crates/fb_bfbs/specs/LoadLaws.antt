@@ -2,10 +2,9 @@
 use Rattle.std.specs.Prelude.{◌≡◌, ◌==◌, ℕ, List, length, Option, Some, None, if◌then◌else◌, option_map, Result, Ok, Err}
 use Rattle.std.specs.Borrow.{Bor}
 use Rattle.fb_schema.specs.Rows.{Rows}
-use Rattle.fb_rules.specs.Bounds.{Bounds}
-use Rattle.fb_rules.specs.declared.{start.Ident.Ident, start.Ident.TheVariants.Any, start.Ident.TheVariants.Want}
-use Rattle.fb_bfbs.specs.declared.{loading.Loaded.Loaded, load_fault.LoadFault.LoadFault, load_fault.LoadFault.TheVariants.OutOfMemory}
-use Rattle.fb_bfbs.specs.{Describes.Describes, Loads.told, Loads.IsLoaded, Loads.IsLoadFault}
+use Rattle.fb_rules.specs.{Bounds.Bounds, declared.start.Ident.Ident, declared.start.Ident.TheVariants.Any, declared.start.Ident.TheVariants.Want}
+use Rattle.fb_bfbs.specs.{declared.loading.Loaded.Loaded, declared.load_fault.LoadFault.LoadFault, declared.load_fault.LoadFault.TheVariants.OutOfMemory, Describes.Describes}
+use Rattle.fb_bfbs.specs.Loads.{told, IsLoaded, IsLoadFault}
 
 -- a schema file describes at most one list of rows
 abbrev pub DescribesOnce : Type 0

@@ -1,13 +1,12 @@
 -- What is answered of a schema file.
 use Rattle.std.specs.Prelude.{ℕ, ◌<◌, ◌≤◌, ◌^◌, true, false, IfSome, IsSome, IsTrue, List, [], ◌∷◌, length}
-use Rattle.fb_schema.specs.{Rows.Rows, Rows.is_table, Demands.IsLegal, Demands.IsFirstIllegal}
-use Rattle.fb_schema.specs.declared.{fault.Code.Code, fault.Code.TheVariants.OutOfMemory as NoMemory, fault.SchemaFault.SchemaFault}
-use Rattle.fb_rules.specs.declared.{checks.Checks.Checks, start.Start.TheVariants.Bare, start.Ident.Ident, start.Ident.TheVariants.Want}
-use Rattle.fb_rules.specs.{Bounds.Bounds, Question.Question, Question.question, Tree.Tree, WellFormed.IsWellFormed, WellFormed.IsWithin, Stops.Stops}
-use Rattle.fb_access.specs.declared.step.Step.TheVariants.{Field as ToField}
-use Rattle.fb_access.specs.Denotes.{Denotes}
-use Rattle.fb_bfbs.specs.declared.{loading.Loaded.Loaded, load_fault.LoadFault.LoadFault}
-use Rattle.fb_bfbs.specs.declared.load_fault.LoadFault.TheVariants.{NotWellFormed, BadSchema, RootNotListed, OutOfMemory, TooLong, TooMuchShared}
+use Rattle.fb_schema.specs.{Rows.Rows, Rows.is_table, Demands.IsLegal, Demands.IsFirstIllegal, declared.fault.Code.Code, declared.fault.Code.TheVariants.OutOfMemory as NoMemory}
+use Rattle.fb_schema.specs.declared.fault.SchemaFault.{SchemaFault}
+use Rattle.fb_rules.specs.{declared.checks.Checks.Checks, declared.start.Start.TheVariants.Bare, declared.start.Ident.Ident, declared.start.Ident.TheVariants.Want, Bounds.Bounds}
+use Rattle.fb_rules.specs.{Question.Question, Question.question, Tree.Tree, WellFormed.IsWellFormed, WellFormed.IsWithin, Stops.Stops}
+use Rattle.fb_access.specs.{declared.step.Step.TheVariants.Field as ToField, Denotes.Denotes}
+use Rattle.fb_bfbs.specs.declared.{loading.Loaded.Loaded, load_fault.LoadFault.LoadFault, load_fault.LoadFault.TheVariants.NotWellFormed}
+use Rattle.fb_bfbs.specs.declared.load_fault.LoadFault.TheVariants.{BadSchema, RootNotListed, OutOfMemory, TooLong, TooMuchShared}
 use Rattle.fb_bfbs.specs.{Fixed.fixed, Says.Says, Says.text_or_nothing, Describes.Describes, Describes.IsRoot, Describes.HasStrayRoot, Sums.IsPaid, Sums.IsOver}
 
 -- the number of the table Schema in the fixed table

@@ -1,10 +1,8 @@
 -- The slots of marks, in order, by which the fields without a mark are found.
 use Rattle.std.specs.Prelude.{◌≡◌, ◌==◌, ◌&&◌, not, ℕ, Bool, List, IsSorted}
-use Rattle.std.specs.{List.list_any, Ordering.nat_cmp, Ordering.ordering_then}
-use Rattle.std.specs.declared.cmp.Ordering.{Ordering}
+use Rattle.std.specs.{List.list_any, Ordering.nat_cmp, Ordering.ordering_then, declared.cmp.Ordering.Ordering}
 use Rattle.fb_schema.specs.Live.{Live}
-use Rattle.fb_bfbs.specs.Marks.{Marked}
-use Rattle.fb_bfbs.specs.ByteFields.{has_mark, is_bytes}
+use Rattle.fb_bfbs.specs.{Marks.Marked, ByteFields.has_mark, ByteFields.is_bytes}
 
 -- slots by their objects, which stand before them
 abbrev pub slot_cmp : ℕ × ℕ → ℕ × ℕ → Ordering

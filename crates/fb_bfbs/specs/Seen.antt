@@ -1,10 +1,9 @@
 -- What is seen from a place in a schema file.
 use Rattle.std.specs.Prelude.{◌≡◌, ℕ, ℤ, List, [], ◌∷◌, Some, option_map}
-use Rattle.fb_schema.specs.declared.kinds.Kind.{Kind, TheVariants.Scalar as AScalar, TheVariants.Table, TheVariants.Tables}
-use Rattle.fb_schema.specs.declared.kinds.Scalar.TheVariants.{Int}
+use Rattle.fb_schema.specs.declared.kinds.{Kind.Kind, Kind.TheVariants.Scalar as AScalar, Kind.TheVariants.Table, Kind.TheVariants.Tables, Scalar.TheVariants.Int}
 use Rattle.fb_schema.specs.Live.{Live}
-use Rattle.fb_access.specs.{Fitting.numbered, Fitting.next_kind, Denotes.Leads, Denotes.Shown, Held.Placed, declared.step.Step.Step, declared.step.Step.TheVariants.Field as ToField}
-use Rattle.fb_access.specs.Here.{IsHere, sure_kind, Shows}
+use Rattle.fb_access.specs.{Fitting.numbered, Fitting.next_kind, Denotes.Leads, Denotes.Shown, Held.Placed, declared.step.Step.Step}
+use Rattle.fb_access.specs.{declared.step.Step.TheVariants.Field as ToField, Here.IsHere, Here.sure_kind, Here.Shows}
 use Rattle.fb_bfbs.specs.{Fixed.fixed, Says.Says, Says.after, Says.AreRows}
 
 -- which steps lead from here to which value

@@ -1,8 +1,7 @@
 -- What the rows of a schema file come to, and how much of that its length pays for.
 use Rattle.std.specs.Prelude.{◌≡◌, ℕ, ◌+◌, ◌*◌, ◌/◌, ◌^◌, ◌<◌, ◌≤◌, ◌⊎◌, ◌↔◌, Bool, IsTrue, List, [], ◌∷◌, length, sum_by}
 use Rattle.fb_schema.specs.Rows.{Field, Object, Member, Enum, Rows}
-use Rattle.fb_access.specs.declared.step.Step.TheVariants.{Field as ToField}
-use Rattle.fb_access.specs.Denotes.{vector}
+use Rattle.fb_access.specs.{declared.step.Step.TheVariants.Field as ToField, Denotes.vector}
 use Rattle.fb_bfbs.specs.{Says.Says, Says.after, Says.AreRows, Describes.Describes}
 
 -- an object with its fields, and an enum with its members
@@ -35,7 +34,7 @@ names_length rows = sum_by object_names rows.objects + sum_by enum_names rows.en
 
 -- so many rows a file of n bytes pays for
 abbrev pub most_rows : ℕ → ℕ
-most_rows n = n / 4 + 2 ^ 16
+most_rows n = n / 20 + 2 ^ 14
 
 -- and so many bytes of names
 abbrev pub most_names : ℕ → ℕ

@@ -3,8 +3,7 @@
 
 ghost use Rattle.std.specs.Prelude.{◌≡◌, map, option_map, IfOk};
 ghost use Rattle.fb_access.specs.declared.step.Step.TheVariants.{Field as ToField};
-ghost use Rattle.fb_bfbs.specs.{Says.after, Seen.seen, Seen.IsAt, Seen.MayHaveField};
-ghost use Rattle.fb_bfbs.specs.Marks.{IsTextOrEmpty, IsAttribute, AreAttributes, value_of};
+ghost use Rattle.fb_bfbs.specs.{Says.after, Seen.seen, Seen.IsAt, Seen.MayHaveField, Marks.IsTextOrEmpty, Marks.IsAttribute, Marks.AreAttributes, Marks.value_of};
 ghost use Rattle.fb_bfbs.specs.Tags.{attribute_of};
 
 use crate::lists::{FromTable, rows_at};

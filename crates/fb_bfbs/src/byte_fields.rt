@@ -1,10 +1,9 @@
 // Fields of bytes, and whether a schema file says what each of them holds.
 
 ghost use Rattle.std.specs.Prelude.{ℕ, IfNone, IfOk, IfSome, IsSorted, ◌≡◌, map};
-ghost use Rattle.fb_schema.specs.{Live.Live, Live.live_of_view};
-ghost use Rattle.fb_bfbs.specs.Marks.{marked};
-ghost use Rattle.fb_bfbs.specs.ByteFields.{IsField, IsUnmarked, are_written, is_at, is_bytes};
-ghost use Rattle.fb_bfbs.specs.MarkedSlots.{AreSlots, has_slot, is_slotless, slot_cmp};
+ghost use Rattle.fb_schema.specs.Live.{Live, live_of_view};
+ghost use Rattle.fb_bfbs.specs.{Marks.marked, ByteFields.IsField, ByteFields.IsUnmarked, ByteFields.are_written, ByteFields.is_at, ByteFields.is_bytes, MarkedSlots.AreSlots};
+ghost use Rattle.fb_bfbs.specs.MarkedSlots.{has_slot, is_slotless, slot_cmp};
 
 use crate::marks::{Builtins, Mark, Marks};
 use fb_schema::{FieldView, Kind, Scalar, Schema};

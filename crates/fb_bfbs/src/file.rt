@@ -50,8 +50,11 @@ fn schema_rows<'b>(alloc: Global, place: &Place<'_, 'b, '_, '_>) -> Result<FileR
     })
 }
 
-/// So many rows are read of a file of any length, and one more for each four bytes, which an offset takes.
-pub const ROWS: u64 = 0x1_0000;
+/// So many rows are read of a file of any length.
+pub const ROWS: u64 = 0x4000;
+
+/// And one more for each so many bytes: a row's offset and table take these, even if its name and type are shared.
+pub const ROW_BYTES: u64 = 20;
 
 /// So many bytes of names are read of a file of any length, and 16 more for each byte.
 const NAMES: u64 = 0x10_0000;
@@ -67,7 +70,7 @@ fn paid_rows<'b>(
     requires len { len < 2 ^ 31 }
     ensures { IfOk result (AreRead (seen place.now) (Some len)) }
 {
-    if !has_few_rows(place, len / 4 + ROWS) {
+    if !has_few_rows(place, len / ROW_BYTES + ROWS) {
         return Ok(None);
     }
     let rows = schema_rows(alloc, place)?;

@@ -21,6 +21,7 @@ fn made(alloc: Global, tables: &[Table]) -> Result<Vec<ObjectRow<'static>>, Allo
 }
 
 /// The ten tables in the order of their numbers.
+#[tactic(auto, unfolding(crate::specs::Fixed::fixed))]
 pub fn objects(alloc: Global) -> Result<Vec<ObjectRow<'static>>, AllocError>
     ensures { IfOk result (λ v. map object_of v.items ≡ fixed.objects) }
 {

@@ -2,8 +2,7 @@
 
 ghost use Rattle.std.specs.Prelude.{ℕ, ◌≡◌, ◌≤◌, ◌*◌, length, All, vec_len, IfOk};
 ghost use Rattle.fb_access.specs.declared.step.Step.TheVariants.{Field as ToField};
-ghost use Rattle.fb_bfbs.specs.Says.{Says, after, AreRows};
-ghost use Rattle.fb_bfbs.specs.Seen.{seen, IsAt, HasField, IsRowAt, AreRowsAt};
+ghost use Rattle.fb_bfbs.specs.{Says.Says, Says.after, Says.AreRows, Seen.seen, Seen.IsAt, Seen.HasField, Seen.IsRowAt, Seen.AreRowsAt};
 
 use crate::values::{count_at, go_to};
 use fb_access::{Place, Step};

@@ -27,7 +27,7 @@ pub enum LoadFault {
     /// L5: there are 2^31 bytes or more.
     TooLong,
     /// L6: the limits have a budget of reads, and the file has more rows, or these have longer names, than its length
-    /// pays for, counted in every place where they stand: more rows than 65,536 and one for each four bytes, or more
+    /// pays for, counted in every place where they stand: more rows than 16,384 and one for each 20 bytes, or more
     /// bytes of names than 1,048,576 and 16 for each byte.
     TooMuchShared,
 }

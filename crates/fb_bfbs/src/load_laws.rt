@@ -1,8 +1,7 @@
 // What follows from the definitions of schema files alone. These functions have no body: their contracts are the
 // theorems.
 
-ghost use Rattle.fb_bfbs.specs.LoadLaws.{DescribesOnce, HasOneAnswer};
-ghost use Rattle.fb_bfbs.specs.Marks.{MarksOnce};
+ghost use Rattle.fb_bfbs.specs.{LoadLaws.DescribesOnce, LoadLaws.HasOneAnswer, Marks.MarksOnce};
 
 /// A schema file describes at most one list of rows.
 pub fn a_file_describes_once()

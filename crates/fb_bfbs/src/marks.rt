@@ -2,12 +2,11 @@
 
 ghost use Rattle.std.specs.Prelude.{◌≡◌, ◌<◌, ◌≤◌, ◌^◌, ◌*◌, ◌++◌, map, length, IfOk, IfErr, IfSome};
 ghost use Rattle.fb_access.specs.Denotes.{Denotes};
-ghost use Rattle.fb_bfbs.specs.{Fixed.fixed, Seen.seen, Seen.IsAt};
-ghost use Rattle.fb_bfbs.specs.Marks.{marked, marks_in, marks_from, beside, told_in, together, AreMarks, IsMarksFault};
-ghost use Rattle.fb_bfbs.specs.Tags.{tagged_of, fields_of, AreToldMarks, IsToldPaid, AreMarksRead};
+ghost use Rattle.fb_bfbs.specs.{Fixed.fixed, Seen.seen, Seen.IsAt, Marks.marked, Marks.marks_in, Marks.marks_from, Marks.beside, Marks.told_in, Marks.together, Marks.AreMarks};
+ghost use Rattle.fb_bfbs.specs.{Marks.IsMarksFault, Tags.tagged_of, Tags.fields_of, Tags.AreToldMarks, Tags.IsToldPaid, Tags.AreMarksRead};
 
 use crate::counted::has_few_rows;
-use crate::file::ROWS;
+use crate::file::{ROW_BYTES, ROWS};
 use crate::fixed::reflection;
 use crate::lists::rows_in;
 use crate::load_fault::LoadFault;
@@ -153,7 +152,7 @@ fn is_paid(place: &Place, paying: Option<u64>) -> bool
     ensures { IsToldPaid (seen place.now) paying result }
 {
     match paying {
-        Some(len) => has_few_rows(place, len / 4 + ROWS),
+        Some(len) => has_few_rows(place, len / ROW_BYTES + ROWS),
         None => true,
     }
 }

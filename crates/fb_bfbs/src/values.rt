@@ -2,11 +2,10 @@
 
 ghost use Rattle.std.specs.Prelude.{◌≡◌, ◌*◌, ◌≤◌, [], ◌∷◌, length, IfSome, IfNone};
 ghost use Rattle.fb_schema.specs.declared.kinds.Scalar.TheVariants as scalar;
-ghost use Rattle.fb_access.specs.declared.step.Step.TheVariants.{Field as ToField};
-ghost use Rattle.fb_access.specs.Denotes.{nothing, text, truth, signed, unsigned, vector, value};
-ghost use Rattle.fb_access.specs.{Denotes.Leads, Here.HereGoesOn};
-ghost use Rattle.fb_bfbs.specs.Says.{after, text_or_nothing, HasDouble};
-ghost use Rattle.fb_bfbs.specs.Seen.{seen, HasField, HasInt, IsKnown, IsVector, MayHaveField, IsOneOn};
+ghost use Rattle.fb_access.specs.{declared.step.Step.TheVariants.Field as ToField, Denotes.nothing, Denotes.text, Denotes.truth, Denotes.signed, Denotes.unsigned, Denotes.vector};
+ghost use Rattle.fb_access.specs.{Denotes.value, Denotes.Leads, Here.HereGoesOn};
+ghost use Rattle.fb_bfbs.specs.{Says.after, Says.text_or_nothing, Says.HasDouble, Seen.seen, Seen.HasField, Seen.HasInt, Seen.IsKnown, Seen.IsVector, Seen.MayHaveField};
+ghost use Rattle.fb_bfbs.specs.Seen.{IsOneOn};
 
 use byteorder::{ByteOrder, LittleEndian};
 use fb_access::{Answer, KnownField, Place};

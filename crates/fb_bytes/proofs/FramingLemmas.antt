@@ -2,11 +2,9 @@
 use Rattle.std.proofs.Common.{◌≡◌, ℕ, Bool, true, false, IsTrue, Result, Ok, Err, eqb, eqb-true, eq-eqb, rules, ◌+◌, ◌-◌, ◌<◌, ◌≤◌, List, [], ◌∷◌, ◌++◌, length, take, drop, refl, sym, ap, ◌∙◌, arith, true≢false, append-nil, append_assoc, length-append, length-drop, length-take, take-append-drop, take_all}
 use mathlib.Core.Logic.{inl, inr}
 use Rattle.std.specs.{Bool.◌==◌, Result.OnErr}
-use Rattle.std.proofs.lemmas.Bool.Decides.{eqb_tells}
-use Rattle.std.proofs.Math.Seq.{take-add}
-use Rattle.std.proofs.lemmas.List.{take-append-le, drop-take}
-use Rattle.fb_bytes.specs.declared.{cut.Cut.Cut, cut.Endian.Endian}
-use Rattle.fb_bytes.specs.{Messages.declared, Messages.IsMessage, Messages.IsOversize, Framing.Framing, Framing.Feeds, Framing.IsFramed, Framing.held_bytes}
+use Rattle.std.proofs.{lemmas.Bool.Decides.eqb_tells, Math.Seq.take-add, lemmas.List.take-append-le, lemmas.List.drop-take}
+use Rattle.fb_bytes.specs.{declared.cut.Cut.Cut, declared.cut.Endian.Endian, Messages.declared, Messages.IsMessage, Messages.IsOversize, Framing.Framing, Framing.Feeds}
+use Rattle.fb_bytes.specs.Framing.{IsFramed, held_bytes}
 use Rattle.fb_bytes.proofs.MessageLemmas.{declared_append}
 
 pub held_bytes-some : (prefix : List ℕ) (filled : ℕ) (body : List ℕ) → 0 < length body → held_bytes prefix filled body ≡ body

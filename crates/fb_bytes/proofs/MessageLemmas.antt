@@ -2,11 +2,9 @@
 use Rattle.std.proofs.Common.{◌≡◌, ℕ, zero, suc, ◌+◌, ◌<◌, ◌≤◌, ◌⊎◌, List, [], ◌∷◌, ◌++◌, length, take, drop, get_or, refl, sym, ap, ◌∙◌, arith, append_assoc, length-append, length-drop, length-take-le, take-append-drop}
 use mathlib.Core.Logic.{inl, inr}
 use Rattle.std.specs.{List.concat, List.All, Int.from_be_bytes, Int.from_le_bytes, Int.w32}
-use Rattle.std.proofs.lemmas.Bool.Decides.{leb_tells}
-use Rattle.std.proofs.lemmas.List.{take_at, take-append-le, get_or-take, append_cancel_left}
-use Rattle.std.proofs.lemmas.List.Elements.{All-nil, All-cons, All-head, All-tail}
-use Rattle.fb_bytes.specs.Word.{word}
-use Rattle.fb_bytes.specs.declared.{cut.Cut.Cut, cut.Endian.Endian, cut.Endian.TheVariants.Little, cut.Endian.TheVariants.Big}
+use Rattle.std.proofs.lemmas.{Bool.cases_lt, List.take_at, List.take-append-le, List.get_or-take, List.append_cancel_left, List.Elements.All-nil, List.Elements.All-cons}
+use Rattle.std.proofs.lemmas.List.Elements.{All-head, All-tail}
+use Rattle.fb_bytes.specs.{Word.word, declared.cut.Cut.Cut, declared.cut.Endian.Endian, declared.cut.Endian.TheVariants.Little, declared.cut.Endian.TheVariants.Big}
 use Rattle.fb_bytes.specs.Messages.{big_word, declared, IsMessage, IsPartial, IsOversize, Splits, OneReading, SomeReading}
 
 -- the number of a prefix, as std reads it
@@ -21,20 +19,13 @@ declared_be_bytes bytes = refl
 -- the number is that of the first four bytes
 pub declared_front : (order : Endian) (xs ys : List ℕ) → take 4 xs ≡ ys → declared order xs ≡ declared order ys
 unfolding word big_word
-declared_front Little xs ys e =
-    let at : (i : ℕ) → i < 4 → get_or xs i 0 ≡ get_or ys i 0 = λ i h. sym (get_or-take 4 xs i 0 h) ∙ ap (λ l. get_or l i 0) e in
-    let a = at 0 (omega arith) in
-    let b = at 1 (omega arith) in
-    let c = at 2 (omega arith) in
-    let d = at 3 (omega arith) in
-    omega arith
-declared_front Big xs ys e =
-    let at : (i : ℕ) → i < 4 → get_or xs i 0 ≡ get_or ys i 0 = λ i h. sym (get_or-take 4 xs i 0 h) ∙ ap (λ l. get_or l i 0) e in
-    let a = at 0 (omega arith) in
-    let b = at 1 (omega arith) in
-    let c = at 2 (omega arith) in
-    let d = at 3 (omega arith) in
-    omega arith
+declared_front order xs ys e = go order (at 0 (omega arith)) (at 1 (omega arith)) (at 2 (omega arith)) (at 3 (omega arith)) where
+  at : (i : ℕ) → i < 4 → get_or xs i 0 ≡ get_or ys i 0
+  at i h = sym (get_or-take 4 xs i 0 h) ∙ ap (λ l. get_or l i 0) e
+
+  go : (order : Endian) → get_or xs 0 0 ≡ get_or ys 0 0 → get_or xs 1 0 ≡ get_or ys 1 0 → get_or xs 2 0 ≡ get_or ys 2 0 → get_or xs 3 0 ≡ get_or ys 3 0 → declared order xs ≡ declared order ys
+  go Little a b c d = omega arith
+  go Big a b c d = omega arith
 
 -- bytes behind a whole prefix don't change its number
 pub declared_append : (order : Endian) (xs ys : List ℕ) → 4 ≤ length xs → declared order (xs ++ ys) ≡ declared order xs
@@ -88,22 +79,19 @@ pub readings_one : OneReading
 readings_one cut stream messages messages' rest rest' s s' =
     readings cut messages messages' rest rest' (sym s.joined ∙ s'.joined) s.each s'.each s.last s'.last
 
-tells : (a b : ℕ) → (a ≤ b) ⊎ (b < a)
-tells a b = elim (leb_tells a b) [ inl h ↦ inl h.1 | inr h ↦ inr h.1 ]
-
 splits-upto : (fuel : ℕ) (cut : Cut) (bytes : List ℕ) → length bytes ≤ fuel → (messages : List (List ℕ)) × (rest : List ℕ) × Splits cut bytes messages rest
 splits-upto zero cut bytes short = ([], bytes, record { joined = refl; each = All-nil (IsMessage cut); last = inl (λ four. absurd (omega arith)) })
 splits-upto (suc fuel) cut bytes short =
     let n = 4 + declared cut.order bytes in
     let stays : IsPartial cut bytes ⊎ IsOversize cut bytes → Splits cut bytes [] bytes =
     λ last. record { joined = refl; each = All-nil (IsMessage cut); last = last } in
-    elim (tells 4 (length bytes)) [
-      | inr few ↦ ([], bytes, stays (inl (λ four. absurd (omega arith))))
-      | inl four ↦ elim (tells n cut.limit) [
-        | inr over ↦ ([], bytes, stays (inr (four, over)))
-        | inl fits ↦ elim (tells n (length bytes)) [
-          | inr part ↦ ([], bytes, stays (inl (λ _. (part, fits))))
-          | inl whole ↦
+    elim (cases_lt (length bytes) 4) [
+      | inl few ↦ ([], bytes, stays (inl (λ four. absurd (omega arith))))
+      | inr four ↦ elim (cases_lt cut.limit n) [
+        | inl over ↦ ([], bytes, stays (inr (four, over)))
+        | inr fits ↦ elim (cases_lt (length bytes) n) [
+          | inl part ↦ ([], bytes, stays (inl (λ _. (part, fits))))
+          | inr whole ↦
               let m = take n bytes in
               let long : length m ≡ n = length-take-le n bytes whole in
               let number : declared cut.order m ≡ declared cut.order bytes = declared_take cut.order n bytes (omega arith) whole in

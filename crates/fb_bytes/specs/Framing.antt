@@ -1,7 +1,6 @@
 -- What a framer holds, and what a piece of the stream does to it.
 use Rattle.std.specs.Prelude.{◌≡◌, ℕ, ◌+◌, ◌<◌, ◌≤◌, ◌⊎◌, Bool, true, false, List, [], ◌∷◌, ◌++◌, length, take}
-use Rattle.fb_bytes.specs.Messages.{declared, IsMessage, IsPartial, IsOversize}
-use Rattle.fb_bytes.specs.declared.{cut.Cut.Cut, stream_fault.StreamFault.StreamFault}
+use Rattle.fb_bytes.specs.{Messages.declared, Messages.IsMessage, Messages.IsPartial, Messages.IsOversize, declared.cut.Cut.Cut, declared.stream_fault.StreamFault.StreamFault}
 use Rattle.fb_bytes.specs.declared.stream_fault.StreamFault.TheVariants.{Oversize, Truncated, OutOfMemory, Failed}
 
 -- how the stream is cut, the bytes that are held, and whether the framer has failed

@@ -1,8 +1,7 @@
 -- A stream of messages, each with its length in front.
 use Rattle.std.specs.Prelude.{◌≡◌, ℕ, ◌+◌, ◌<◌, ◌≤◌, ◌⊎◌, List, ◌++◌, length, All}
 use Rattle.std.specs.{Int.from_be_bytes, Int.w32, List.concat}
-use Rattle.fb_bytes.specs.Word.{word}
-use Rattle.fb_bytes.specs.declared.{cut.Cut.Cut, cut.Endian.Endian, cut.Endian.TheVariants.Little, cut.Endian.TheVariants.Big}
+use Rattle.fb_bytes.specs.{Word.word, declared.cut.Cut.Cut, declared.cut.Endian.Endian, declared.cut.Endian.TheVariants.Little, declared.cut.Endian.TheVariants.Big}
 
 -- the number in the first four bytes, the highest byte first
 unfoldable pub big_word : List ℕ → ℕ

@@ -1,14 +1,12 @@
 -- A chain of tests finds nothing exactly where the facts hold.
 use Rattle.std.proofs.Common.{◌≡◌, ◌↔◌, ℕ, List, Option, None, IsTrue, arith, rules, tests}
 use Rattle.std.proofs.lemmas.Bool.Decides.{nat_tests}
-use Rattle.fb_schema.specs.declared.kinds.Kind.{Kind}
-use Rattle.fb_schema.specs.{Rows.Rows, Live.Live}
-use Rattle.fb_rules.specs.declared.{checks.Checks.Checks, start.Start.Start, start.Ident.Ident}
-use Rattle.fb_rules.specs.{Places.is_aligned, Places.ends_in_table, Tree.Element, Tree.leaf, Tree.table, Unfolds.ElementUnfolds}
-use Rattle.fb_rules.specs.{WellFormed.IsStart, Laws.IsLead}
-use Rattle.fb_rules.specs.Facts.{IsAligned, EndsInTable, IsTable, IsOffset, IsString, IsVector, IsInline}
-use Rattle.fb_rules.specs.Fields.{IsPresent, IsField, to_table, Entry}
-use Rattle.fb_rules.specs.Order.{Failure, after, ◌▷◌, prefix_failure, ident_failure, offset_failure, start_failure, head_failure, string_failure, vector_failure, inline_failure, table_failure, present_failure, own_failure, element_failure}
+use Rattle.fb_schema.specs.{declared.kinds.Kind.Kind, Rows.Rows, Live.Live}
+use Rattle.fb_rules.specs.{declared.checks.Checks.Checks, declared.start.Start.Start, declared.start.Ident.Ident, Places.is_aligned, Places.ends_in_table, Tree.Element, Tree.leaf}
+use Rattle.fb_rules.specs.{Tree.table, Unfolds.ElementUnfolds, WellFormed.IsStart, Laws.IsLead, Facts.IsAligned, Facts.EndsInTable, Facts.IsTable, Facts.IsOffset, Facts.IsString}
+use Rattle.fb_rules.specs.{Facts.IsVector, Facts.IsInline, Fields.IsPresent, Fields.IsField, Fields.to_table, Fields.Entry, Order.Failure, Order.after, Order.◌▷◌}
+use Rattle.fb_rules.specs.Order.{prefix_failure, ident_failure, offset_failure, start_failure, head_failure, string_failure, vector_failure, inline_failure, table_failure}
+use Rattle.fb_rules.specs.Order.{present_failure, own_failure, element_failure}
 
 -- two chains, and a chain after some reads
 

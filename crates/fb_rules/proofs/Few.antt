@@ -1,10 +1,8 @@
 -- Reads are few.
 use Rattle.std.proofs.Common.{ℕ, ◌+◌, ◌≤◌, List, arith, Option}
-use Rattle.fb_schema.specs.declared.kinds.Kind.{Kind}
-use Rattle.fb_schema.specs.{Rows.Rows, Live.Live}
-use Rattle.fb_rules.specs.declared.{checks.Checks.Checks, offset_row.Row.Row}
-use Rattle.fb_rules.specs.Cost.{head_reads, slot_reads, reads_if_present, present_reads, own_reads, lead_reads}
-use Rattle.fb_rules.specs.{Fields.Lead, OffsetRows.first_word}
+use Rattle.fb_schema.specs.{declared.kinds.Kind.Kind, Rows.Rows, Live.Live}
+use Rattle.fb_rules.specs.{declared.checks.Checks.Checks, declared.offset_row.Row.Row, Cost.head_reads, Cost.slot_reads, Cost.reads_if_present, Cost.present_reads, Cost.own_reads}
+use Rattle.fb_rules.specs.{Cost.lead_reads, Fields.Lead, OffsetRows.first_word}
 
 pub lead_few : (lead : Lead) → lead_reads lead ≤ 3
 lead_few lead = grind arith

@@ -1,10 +1,8 @@
 -- The head of a table is tested by its first word, and then by its vtable.
 use Rattle.std.proofs.Common.{◌≡◌, ℕ, ◌+◌, List, sym, ◌∙◌, ap, arith, Option, Some, None}
 use Rattle.fb_bytes.specs.Word.{Lent}
-use Rattle.fb_rules.specs.declared.{checks.Checks.Checks, fault.Reason.Reason}
-use Rattle.fb_rules.specs.Cost.{head_reads}
-use Rattle.fb_rules.specs.Order.{Failure, after, ◌▷◌, head_failure}
-use Rattle.fb_rules.specs.Plain.{IsTested, first_word_failure, vtable_failure, vtable_reads}
+use Rattle.fb_rules.specs.{declared.checks.Checks.Checks, declared.fault.Reason.Reason, Cost.head_reads, Order.Failure, Order.after, Order.◌▷◌, Order.head_failure, Plain.IsTested}
+use Rattle.fb_rules.specs.Plain.{first_word_failure, vtable_failure, vtable_reads}
 use Rattle.fb_rules.proofs.Plains.{after_twice}
 
 pub head_parts : (c : Checks) (b : List ℕ) (t : ℕ) → head_failure c b t ≡ first_word_failure c b t ▷ after 1 (vtable_failure c b t)

@@ -2,12 +2,11 @@
 use Rattle.std.proofs.Common.{◌≡◌, ℕ, ◌⊎◌, inl, inr, List, [], ◌∷◌, refl, sym, ap, subst, arith, Some}
 use Rattle.std.proofs.lemmas.Bool.Decides.{nat_tests}
 use Rattle.fb_schema.specs.{Rows.Rows, Live.Live}
-use Rattle.fb_rules.specs.declared.{checks.Checks.Checks, fault.Fault.Fault, link.Link.Link}
-use Rattle.fb_rules.specs.{Bounds.Bounds, Places.target, Fields.Entry, Tree.elements_length, WellFormed.base}
-use Rattle.fb_rules.specs.Laws.{EndIn, LinksEndInField}
-use Rattle.fb_rules.specs.Way.{Way, way_to_root, way_to_field, way_to_element, way_to_table}
-use Rattle.fb_rules.specs.Stops.{Place, in_head, in_field, in_element, fault_at, IsFalseAt, Trail, at_head, at_field, FieldTrail, at_own, at_element, ElementTrail, at_lead, through, IsTrail, IsFieldTrail, IsElementTrail}
-use Rattle.fb_rules.specs.Links.{field_link, element_link, object_led_to, links_of, links_in_field, links_in_element}
+use Rattle.fb_rules.specs.{declared.checks.Checks.Checks, declared.fault.Fault.Fault, declared.link.Link.Link, Bounds.Bounds, Places.target, Fields.Entry, Tree.elements_length}
+use Rattle.fb_rules.specs.{WellFormed.base, Laws.EndIn, Laws.LinksEndInField, Way.Way, Way.way_to_root, Way.way_to_field, Way.way_to_element, Way.way_to_table, Stops.Place}
+use Rattle.fb_rules.specs.Stops.{in_head, in_field, in_element, fault_at, IsFalseAt, Trail, at_head, at_field, FieldTrail, at_own, at_element, ElementTrail, at_lead, through}
+use Rattle.fb_rules.specs.{Stops.IsTrail, Stops.IsFieldTrail, Stops.IsElementTrail, Links.field_link, Links.element_link, Links.object_led_to, Links.links_of, Links.links_in_field}
+use Rattle.fb_rules.specs.Links.{links_in_element}
 
 -- no link is left of a fault that names the field by which its table was come to, or the last is to the field that it
 -- names

@@ -1,10 +1,9 @@
 -- What the schema tells of a type of a union is what its member leads to.
 use Rattle.std.proofs.Common.{◌≡◌, refl, Option, Some, None}
-use Rattle.fb_schema.specs.declared.{kinds.Kind.Kind, kinds.Kind.TheVariants.Scalar, kinds.Kind.TheVariants.Struct, kinds.Kind.TheVariants.Table}
-use Rattle.fb_schema.specs.declared.views.Target.{Target}
+use Rattle.fb_schema.specs.declared.{kinds.Kind.Kind, kinds.Kind.TheVariants.Scalar, kinds.Kind.TheVariants.Struct, kinds.Kind.TheVariants.Table, views.Target.Target}
 use Rattle.fb_schema.specs.{Rows.Rows, Served.MemberHolds, Targets.target_of, Targets.kind_to}
-use Rattle.fb_rules.specs.{Fields.to_nothing, Fields.lead_of, OffsetRows.lead_to, OffsetRows.referent_of, OffsetRows.IsReferent}
-use Rattle.fb_rules.specs.declared.{offset_row.Referent.Referent, offset_row.Referent.TheVariants.Nothing}
+use Rattle.fb_rules.specs.{Fields.to_nothing, Fields.lead_of, OffsetRows.lead_to, OffsetRows.referent_of, OffsetRows.IsReferent, declared.offset_row.Referent.Referent}
+use Rattle.fb_rules.specs.declared.offset_row.Referent.TheVariants.{Nothing}
 
 pub goal_leads : (S : Rows) (member : Option Kind) (t : Target) → t ≡ target_of S member → lead_to (referent_of t.goal t) ≡ lead_of S member
 goal_leads S (Some (Scalar s)) t is = rw is refl

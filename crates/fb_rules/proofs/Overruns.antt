@@ -4,18 +4,17 @@ use Rattle.std.proofs.Common.{◌≡◌, ℕ, ◌+◌, ◌≤◌, inl, inr, List
 use Rattle.std.specs.Prelude.{slice_get}
 use Rattle.std.proofs.lemmas.Bool.Decides.{nat_tests}
 use Rattle.fb_schema.specs.{Rows.Rows, Live.Live, Live.live_fields}
-use Rattle.fb_rules.specs.declared.{checks.Checks.Checks, start.Start.Start, start.Ident.Ident, fault.Fault.Fault}
-use Rattle.fb_rules.specs.declared.fault.Reason.TheVariants.{TooManyReads}
+use Rattle.fb_rules.specs.declared.{checks.Checks.Checks, start.Start.Start, start.Ident.Ident, fault.Fault.Fault, fault.Reason.TheVariants.TooManyReads}
 use Rattle.fb_rules.specs.{Bounds.Bounds, Bounds.AreAllowed, Bounds.AreTooMany, Places.target, Facts.IsTable, Facts.IsOffset, Laws.Overruns, Laws.StopsNowhereWithin}
-use Rattle.fb_rules.specs.Fields.{IsField, Lead, to_table, Entry, entries}
-use Rattle.fb_rules.specs.Tree.{Tree, node, Kids, no_kids, kid, Elements, no_elements, element, Element, leaf, table, size, kids_size, elements_size, element_size, depth, kids_depth, elements_depth, element_depth, kids_length, elements_length}
-use Rattle.fb_rules.specs.Unfolds.{Unfolds, FieldsUnfold, ElementsUnfold, ElementUnfolds}
-use Rattle.fb_rules.specs.Cost.{head_reads, own_reads, lead_reads, tree_cost, kids_cost, elements_cost, element_cost}
-use Rattle.fb_rules.specs.WellFormed.{base, start_reads, IsStart, cost}
-use Rattle.fb_rules.specs.Way.{Way, way_to_start, way_to_root, way_to_field, way_to_element, way_to_table}
-use Rattle.fb_rules.specs.Stops.{in_start, in_head, in_field, in_element, fault_at, IsFalseAt, Trail, at_head, at_field, FieldTrail, at_own, at_element, ElementTrail, at_lead, through, IsTrail, IsFieldTrail, IsElementTrail}
-use Rattle.fb_rules.proofs.Budgets.{are_too_many, not_both, more_reads}
-use Rattle.fb_rules.proofs.Chains.{start_none, head_none, own_none, element_passes, through_passes}
+use Rattle.fb_rules.specs.{Fields.IsField, Fields.Lead, Fields.to_table, Fields.Entry, Fields.entries, Tree.Tree, Tree.node, Tree.Kids, Tree.no_kids, Tree.kid, Tree.Elements}
+use Rattle.fb_rules.specs.Tree.{no_elements, element, Element, leaf, table, size, kids_size, elements_size, element_size, depth, kids_depth, elements_depth, element_depth}
+use Rattle.fb_rules.specs.{Tree.kids_length, Tree.elements_length, Unfolds.Unfolds, Unfolds.FieldsUnfold, Unfolds.ElementsUnfold, Unfolds.ElementUnfolds, Cost.head_reads}
+use Rattle.fb_rules.specs.{Cost.own_reads, Cost.lead_reads, Cost.tree_cost, Cost.kids_cost, Cost.elements_cost, Cost.element_cost, WellFormed.base, WellFormed.start_reads}
+use Rattle.fb_rules.specs.{WellFormed.IsStart, WellFormed.cost, Way.Way, Way.way_to_start, Way.way_to_root, Way.way_to_field, Way.way_to_element, Way.way_to_table, Stops.in_start}
+use Rattle.fb_rules.specs.Stops.{in_head, in_field, in_element, fault_at, IsFalseAt, Trail, at_head, at_field, FieldTrail, at_own, at_element, ElementTrail, at_lead, through}
+use Rattle.fb_rules.specs.Stops.{IsTrail, IsFieldTrail, IsElementTrail}
+use Rattle.fb_rules.proofs.{Budgets.are_too_many, Budgets.not_both, Budgets.more_reads, Chains.start_none, Chains.head_none, Chains.own_none, Chains.element_passes}
+use Rattle.fb_rules.proofs.Chains.{through_passes}
 
 module _ (c : Checks) (b : List ℕ) (S : Rows) where
   mutual

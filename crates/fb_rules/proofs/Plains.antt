@@ -1,16 +1,14 @@
 -- Fields that lead to no table are passed by their steps.
-use Rattle.std.proofs.Common.{◌≡◌, ℕ, zero, suc, ◌+◌, ◌≤◌, ◌==◌, ◌&&◌, ◌⊎◌, inl, inr, Bool, true, false, List, [], ◌∷◌, map, refl, sym, ◌∙◌, ap, subst, arith, Option, Some, None, if◌then◌else◌}
+use Rattle.std.proofs.Common.{◌≡◌, ℕ, zero, suc, ◌+◌, ◌≤◌, ◌⊎◌, inl, inr, Bool, true, false, List, [], ◌∷◌, map, refl, sym, ◌∙◌, ap, subst, arith, Option, Some, None}
 use Rattle.std.specs.Prelude.{slice_get}
 use Rattle.std.proofs.lemmas.Bool.Decides.{nat_tests}
 use Rattle.fb_schema.proofs.Numbers.{both_true}
-use Rattle.fb_schema.specs.declared.{kinds.Kind.Kind, views.Act.Act, views.Step.Step}
-use Rattle.fb_schema.specs.declared.kinds.Kind.TheVariants.{Scalar, Text, Struct, Table, Scalars, Structs}
-use Rattle.fb_schema.specs.declared.views.Act.TheVariants.{One, Two, Four, Eight, Inline, Other}
-use Rattle.fb_schema.specs.{Rows.Rows, Live.Live, Served.IsAlignment, Served.KindHolds}
-use Rattle.fb_schema.specs.Steps.{inline_act, act_of, bit_of, bits_of, is_plain_act, are_plain, step_of}
-use Rattle.fb_rules.specs.declared.{checks.Checks.Checks}
-use Rattle.fb_rules.specs.{Places.field_place, Fields.to_string, Fields.entry, Fields.entries, Cost.slot_reads, Cost.own_reads}
-use Rattle.fb_rules.specs.Order.{Failure, after, ◌▷◌, table_failure, inline_field_failure, lead_failure, own_failure, element_failure}
+use Rattle.fb_schema.specs.declared.{kinds.Kind.Kind, views.Act.Act, views.Step.Step, kinds.Kind.TheVariants.Scalar, kinds.Kind.TheVariants.Text, kinds.Kind.TheVariants.Struct}
+use Rattle.fb_schema.specs.declared.{kinds.Kind.TheVariants.Table, kinds.Kind.TheVariants.Scalars, kinds.Kind.TheVariants.Structs, views.Act.TheVariants.Other}
+use Rattle.fb_schema.specs.{Rows.Rows, Live.Live, Served.IsAlignment, Served.KindHolds, Steps.inline_act, Steps.act_of, Steps.bit_of, Steps.bits_of, Steps.is_plain_act}
+use Rattle.fb_schema.specs.Steps.{are_plain, step_of}
+use Rattle.fb_rules.specs.{declared.checks.Checks.Checks, Places.field_place, Fields.to_string, Fields.entry, Fields.entries, Cost.slot_reads, Cost.own_reads, Order.Failure}
+use Rattle.fb_rules.specs.Order.{after, ◌▷◌, table_failure, inline_field_failure, lead_failure, own_failure, element_failure}
 use Rattle.fb_rules.specs.Plain.{step_failure, step_reads, IsStep, HasBit, plain_failure, plain_reads}
 use Rattle.fb_rules.proofs.Few.{slot_few}
 
@@ -38,14 +36,7 @@ inline_free required size align = grind arith
 
 -- one of five acts is its own
 inline_is : (s : Step) (required : Bool) (size align : ℕ) → s.required ≡ required → IsAlignment s.align → IsStep s (inline_act required size align)
-inline_is s true size align free h = h
-inline_is s false size align free h = go (size == 1 && align == 1) (size == 2 && align == 2) (size == 4 && align == 4) (size == 8 && align == 8) where
-  go : (w x y z : Bool) → IsStep s (if w then One else (if x then Two else (if y then Four else (if z then Eight else Inline))))
-  go true x y z = free
-  go false true y z = free
-  go false false true z = free
-  go false false false true = free
-  go false false false false = h
+inline_is s required size align free h = grind (arith, free, h)
 
 -- What is asked for its own alignment has one, and what has a bit of its size may be absent.
 pub kind_step : (S : Rows) (f : Live) (kind : Kind) → KindHolds S f kind → IsStep (step_of f) (act_of f kind)

@@ -2,22 +2,20 @@
 use Rattle.std.proofs.Common.{◌≡◌, ℕ, zero, suc, ◌+◌, ◌-◌, ◌*◌, ◌<◌, ◌≤◌, ◌⊎◌, List, [], ◌∷◌, length, take, refl, ap, arith, Option, Some, None, inl, inr, mul-le-mul_left, mul-le-mul_right, length-take}
 use Rattle.std.specs.Prelude.{slice_get}
 use Rattle.std.proofs.lemmas.{Option.slice_get_within, Bool.Decides.nat_tests}
-use Rattle.fb_schema.specs.declared.kinds.Kind.{Kind}
-use Rattle.fb_schema.specs.{Rows.Rows, Live.Live, Live.live_fields, Live.widest}
+use Rattle.fb_schema.specs.{declared.kinds.Kind.Kind, Rows.Rows, Live.Live, Live.live_fields, Live.widest}
 use Rattle.fb_schema.proofs.LookLemmas.{within_widest}
-use Rattle.fb_rules.specs.declared.{checks.Checks.Checks, fault.Fault.Fault, start.Start.Start, start.Ident.Ident}
-use Rattle.fb_rules.specs.{Bounds.Bounds, Places.target}
-use Rattle.fb_rules.specs.Fields.{IsPresent, IsField, Lead, to_table, Entry, row, union_row, entries_of, entries}
-use Rattle.fb_rules.specs.Tree.{Tree, node, Kids, no_kids, kid, Elements, no_elements, element, Element, leaf, table, size, kids_size, elements_size, element_size, kids_length, elements_length}
-use Rattle.fb_rules.specs.Unfolds.{Unfolds, FieldsUnfold, ElementsUnfold, ElementUnfolds}
-use Rattle.fb_rules.specs.Cost.{present_reads, own_reads, lead_reads, tree_cost, kids_cost, elements_cost, element_cost}
-use Rattle.fb_rules.specs.{MostReads.within_budget, MostReads.most_reads, Laws.CostIsBounded, Laws.ReadsAreBounded}
-use Rattle.fb_rules.specs.WellFormed.{base, start_reads, cost}
-use Rattle.fb_rules.specs.Order.{Failure, prefix_failure, ident_failure, offset_failure, start_failure, head_failure, string_failure, vector_failure, inline_failure, table_failure, present_failure, own_failure, element_failure}
-use Rattle.fb_rules.specs.Way.{Way, way_to_start, way_to_root, way_to_field, way_to_element, way_to_table}
-use Rattle.fb_rules.specs.Stops.{in_start, in_head, in_field, in_element, fault_at, IsFalseAt, Trail, at_head, at_field, FieldTrail, at_own, at_element, ElementTrail, at_lead, through, IsTrail, IsFieldTrail, IsElementTrail}
-use Rattle.fb_rules.proofs.{Budgets.no_reads, Budgets.near, Overruns.kids_cost_take, Overruns.elements_cost_take, Words.row_length, Words.union_row_length}
-use Rattle.fb_rules.proofs.Few.{lead_few, if_present_few, own_few, head_few, slot_few}
+use Rattle.fb_rules.specs.{declared.checks.Checks.Checks, declared.fault.Fault.Fault, declared.start.Start.Start, declared.start.Ident.Ident, Bounds.Bounds, Places.target}
+use Rattle.fb_rules.specs.{Fields.IsPresent, Fields.IsField, Fields.Lead, Fields.to_table, Fields.Entry, Fields.row, Fields.union_row, Fields.entries_of, Fields.entries, Tree.Tree}
+use Rattle.fb_rules.specs.Tree.{node, Kids, no_kids, kid, Elements, no_elements, element, Element, leaf, table, size, kids_size, elements_size, element_size, kids_length}
+use Rattle.fb_rules.specs.{Tree.elements_length, Unfolds.Unfolds, Unfolds.FieldsUnfold, Unfolds.ElementsUnfold, Unfolds.ElementUnfolds, Cost.present_reads, Cost.own_reads}
+use Rattle.fb_rules.specs.{Cost.lead_reads, Cost.tree_cost, Cost.kids_cost, Cost.elements_cost, Cost.element_cost, MostReads.within_budget, MostReads.most_reads}
+use Rattle.fb_rules.specs.{Laws.CostIsBounded, Laws.ReadsAreBounded, WellFormed.base, WellFormed.start_reads, WellFormed.cost, Order.Failure, Order.prefix_failure}
+use Rattle.fb_rules.specs.Order.{ident_failure, offset_failure, start_failure, head_failure, string_failure, vector_failure, inline_failure, table_failure, present_failure}
+use Rattle.fb_rules.specs.{Order.own_failure, Order.element_failure, Way.Way, Way.way_to_start, Way.way_to_root, Way.way_to_field, Way.way_to_element, Way.way_to_table}
+use Rattle.fb_rules.specs.Stops.{in_start, in_head, in_field, in_element, fault_at, IsFalseAt, Trail, at_head, at_field, FieldTrail, at_own, at_element, ElementTrail, at_lead}
+use Rattle.fb_rules.specs.Stops.{through, IsTrail, IsFieldTrail, IsElementTrail}
+use Rattle.fb_rules.proofs.{Budgets.no_reads, Budgets.near, Overruns.kids_cost_take, Overruns.elements_cost_take, Words.row_length, Words.union_row_length, Few.lead_few}
+use Rattle.fb_rules.proofs.Few.{if_present_few, own_few, head_few, slot_few}
 
 -- no failure of the chain comes after more reads
 abbrev AtMost : ℕ → Option Failure → Type 0

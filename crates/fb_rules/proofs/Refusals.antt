@@ -2,11 +2,9 @@
 use Rattle.std.proofs.Common.{◌≡◌, ℕ, ◌+◌, false, List, Result, Ok, Err, sym, ◌∙◌, ap, subst, arith, Option, Some, None}
 use Rattle.std.specs.Result.{IsErrAnd}
 use Rattle.fb_bytes.specs.Word.{Lent}
-use Rattle.fb_rules.specs.declared.{fault.Fault.Fault, fault.Reason.Reason, site.Site.Site, site.Refusal.Refusal, site.Stop.Stop}
-use Rattle.fb_rules.specs.declared.fault.Reason.TheVariants.{TooManyReads}
-use Rattle.fb_rules.specs.{Bounds.Bounds, Bounds.allowed, Cost.lead_reads, Fields.Lead, Fields.Entry, OffsetRows.IsLeafLead}
-use Rattle.fb_rules.specs.{Plain.tested_by, Plain.IsTested, Stops.reads_failure, Stops.lead_reads_failure, Told.told, Told.refused, Told.stopped, Told.IsAskedAt}
-use Rattle.fb_rules.specs.Order.{Failure, after, ◌▷◌}
+use Rattle.fb_rules.specs.declared.{fault.Fault.Fault, fault.Reason.Reason, site.Site.Site, site.Refusal.Refusal, site.Stop.Stop, fault.Reason.TheVariants.TooManyReads}
+use Rattle.fb_rules.specs.{Bounds.Bounds, Bounds.allowed, Cost.lead_reads, Fields.Lead, Fields.Entry, OffsetRows.IsLeafLead, Plain.tested_by, Plain.IsTested, Stops.reads_failure}
+use Rattle.fb_rules.specs.{Stops.lead_reads_failure, Told.told, Told.refused, Told.stopped, Told.IsAskedAt, Order.Failure, Order.after, Order.◌▷◌}
 use Rattle.fb_rules.proofs.Plains.{after_twice}
 
 -- a failure that is refused so is told so

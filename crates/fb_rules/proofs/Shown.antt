@@ -3,15 +3,13 @@ use Rattle.std.proofs.Common.{◌≡◌, ℕ, List, [], ◌∷◌, take, refl, r
 use Rattle.std.specs.Prelude.{slice_get}
 use Rattle.fb_bytes.specs.Word.{word}
 use Rattle.fb_schema.specs.{Rows.Rows, Live.Live, Live.live_fields, Kinds.shape_of, Kinds.kind_of, Kinds.base_types, Members.member_of}
-use Rattle.fb_rules.specs.declared.{checks.Checks.Checks, start.Start.Start, start.Ident.Ident}
-use Rattle.fb_rules.specs.{Facts.IsTable, Facts.IsOffset, Facts.IsString, Examples.kids_of, Examples.one_field}
-use Rattle.fb_rules.specs.{WellFormed.IsStart, Unfolds.Unfolds, Unfolds.FieldsUnfold, Unfolds.ElementsUnfold, Cost.own_reads, Cost.tree_cost}
-use Rattle.fb_rules.specs.Places.{is_aligned, has_vtable, vtable, field_place, ends_in_table}
-use Rattle.fb_rules.specs.Fields.{IsField, Entry, entries, row, union_row}
+use Rattle.fb_rules.specs.{declared.checks.Checks.Checks, declared.start.Start.Start, declared.start.Ident.Ident, Facts.IsTable, Facts.IsOffset, Facts.IsString, Examples.kids_of}
+use Rattle.fb_rules.specs.{Examples.one_field, WellFormed.IsStart, Unfolds.Unfolds, Unfolds.FieldsUnfold, Unfolds.ElementsUnfold, Cost.own_reads, Cost.tree_cost, Places.is_aligned}
+use Rattle.fb_rules.specs.{Places.has_vtable, Places.vtable, Places.field_place, Places.ends_in_table, Fields.IsField, Fields.Entry, Fields.entries, Fields.row, Fields.union_row}
 use Rattle.fb_rules.specs.Tree.{Tree, node, Kids, no_kids, no_elements, element, Elements, table, size, depth, kids_length, elements_length}
-use Rattle.fb_rules.specs.Order.{own_failure, element_failure, start_failure, prefix_failure, ident_failure, head_failure, offset_failure, string_failure, vector_failure, inline_failure, table_failure}
-use Rattle.fb_rules.specs.Stops.{fault_at, IsLink, IsInField, Trail, at_head, at_field, at_own, at_element, at_lead, through, IsTrail}
-use Rattle.fb_rules.specs.{Links.links_of, Links.links_in_field, Links.links_in_element, LinkExamples.LinksFound}
+use Rattle.fb_rules.specs.Order.{own_failure, element_failure, start_failure, prefix_failure, ident_failure, head_failure, offset_failure, string_failure, vector_failure}
+use Rattle.fb_rules.specs.{Order.inline_failure, Order.table_failure, Stops.fault_at, Stops.IsLink, Stops.IsInField, Stops.Trail, Stops.at_head, Stops.at_field, Stops.at_own}
+use Rattle.fb_rules.specs.{Stops.at_element, Stops.at_lead, Stops.through, Stops.IsTrail, Links.links_of, Links.links_in_field, Links.links_in_element, LinkExamples.LinksFound}
 use Rattle.fb_rules.proofs.Chains.{start_none, head_none, own_none, offset_none, string_none, inline_none}
 
 -- all that is computed, with the facts of fields

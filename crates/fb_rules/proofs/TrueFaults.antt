@@ -2,18 +2,17 @@
 use Rattle.std.proofs.Common.{◌≡◌, ◌≢◌, ℕ, suc, ◌+◌, ◌≤◌, ◌⊎◌, inl, inr, List, refl, ◌∙◌, arith, Option, Some, None}
 use Rattle.std.specs.Prelude.{slice_get}
 use Rattle.std.proofs.lemmas.Bool.Decides.{nat_tests}
-use Rattle.fb_schema.specs.declared.kinds.Kind.{Kind}
-use Rattle.fb_schema.specs.declared.kinds.Kind.TheVariants.{Unions}
-use Rattle.fb_schema.specs.{Rows.Rows, Live.Live, Live.live_fields}
-use Rattle.fb_rules.specs.declared.{checks.Checks.Checks, start.Start.Start, start.Ident.Ident}
-use Rattle.fb_rules.specs.declared.{fault.Fault.Fault, fault.Reason.Reason, fault.Reason.TheVariants.TooManyTables}
-use Rattle.fb_rules.specs.{Bounds.Bounds, Facts.IsTable, Tree.kids_length, Tree.elements_length, WellFormed.base, WellFormed.start_reads}
-use Rattle.fb_rules.specs.Places.{is_aligned, target, field_place, ends_in_table}
-use Rattle.fb_rules.specs.Fields.{Entry}
-use Rattle.fb_rules.specs.Order.{Failure, ◌▷◌, prefix_failure, ident_failure, offset_failure, start_failure, head_failure, string_failure, vector_failure, inline_failure, table_failure, vector_field_failure, present_failure, own_failure, element_failure}
-use Rattle.fb_rules.specs.Way.{Way, way_to_start, way_to_root, way_to_field, way_to_element, way_to_table}
-use Rattle.fb_rules.specs.Stops.{in_head, in_field, in_element, fault_of, reads_failure, fault_at, IsFalseAt, Trail, at_head, at_field, FieldTrail, at_own, at_element, ElementTrail, at_lead, through, IsTrail, IsFieldTrail, IsElementTrail}
-use Rattle.fb_rules.specs.TrueReasons.{PrefixIsFalse, IdentIsFalse, OffsetIsFalse, HeadIsFalse, StringIsFalse, VectorIsFalse, InlineIsFalse, PastIsFalse, VectorFieldIsFalse, PresentIsFalse, PlacedIsFalse, LeadIsFalse, FailsAtLimit, IsOverBudget, HasEntry, LeadsOn, IsReached, as_root, from_above, FailsInHead, FailsInField, FailsInElement, FailsAtTable, StopsTruly, opened_on, opened_on_field, opened_on_element, TablesRunOut}
+use Rattle.fb_schema.specs.{declared.kinds.Kind.Kind, declared.kinds.Kind.TheVariants.Unions, Rows.Rows, Live.Live, Live.live_fields}
+use Rattle.fb_rules.specs.declared.{checks.Checks.Checks, start.Start.Start, start.Ident.Ident, fault.Fault.Fault, fault.Reason.Reason, fault.Reason.TheVariants.TooManyTables}
+use Rattle.fb_rules.specs.{Bounds.Bounds, Facts.IsTable, Tree.kids_length, Tree.elements_length, WellFormed.base, WellFormed.start_reads, Places.is_aligned, Places.target}
+use Rattle.fb_rules.specs.{Places.field_place, Places.ends_in_table, Fields.Entry, Order.Failure, Order.◌▷◌, Order.prefix_failure, Order.ident_failure, Order.offset_failure}
+use Rattle.fb_rules.specs.Order.{start_failure, head_failure, string_failure, vector_failure, inline_failure, table_failure, vector_field_failure, present_failure, own_failure}
+use Rattle.fb_rules.specs.{Order.element_failure, Way.Way, Way.way_to_start, Way.way_to_root, Way.way_to_field, Way.way_to_element, Way.way_to_table, Stops.in_head, Stops.in_field}
+use Rattle.fb_rules.specs.Stops.{in_element, fault_of, reads_failure, fault_at, IsFalseAt, Trail, at_head, at_field, FieldTrail, at_own, at_element, ElementTrail, at_lead, through}
+use Rattle.fb_rules.specs.{Stops.IsTrail, Stops.IsFieldTrail, Stops.IsElementTrail, TrueReasons.PrefixIsFalse, TrueReasons.IdentIsFalse, TrueReasons.OffsetIsFalse}
+use Rattle.fb_rules.specs.TrueReasons.{HeadIsFalse, StringIsFalse, VectorIsFalse, InlineIsFalse, PastIsFalse, VectorFieldIsFalse, PresentIsFalse, PlacedIsFalse, LeadIsFalse}
+use Rattle.fb_rules.specs.TrueReasons.{FailsAtLimit, IsOverBudget, HasEntry, LeadsOn, IsReached, as_root, from_above, FailsInHead, FailsInField, FailsInElement, FailsAtTable}
+use Rattle.fb_rules.specs.TrueReasons.{StopsTruly, opened_on, opened_on_field, opened_on_element, TablesRunOut}
 use Rattle.fb_rules.proofs.{Budgets.are_too_many, Chains.offset_none}
 
 -- This holds of the reason and position that a chain finds, if it finds any.

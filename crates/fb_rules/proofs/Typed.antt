@@ -1,12 +1,10 @@
 -- The type fields of unions were checked before the unions.
 use Rattle.std.proofs.Common.{◌≡◌, ℕ, zero, suc, ◌-◌, ◌<◌, List, [], ◌∷◌, take, refl, ◌∙◌, arith, Some}
 use Rattle.std.specs.Prelude.{slice_get}
-use Rattle.fb_schema.specs.declared.kinds.Kind.{Kind, TheVariants.Scalar, TheVariants.Union, TheVariants.Scalars, TheVariants.Unions}
-use Rattle.fb_schema.specs.declared.kinds.Scalar.TheVariants.{UType}
+use Rattle.fb_schema.specs.declared.kinds.{Kind.Kind, Kind.TheVariants.Scalar, Kind.TheVariants.Union, Kind.TheVariants.Scalars, Kind.TheVariants.Unions, Scalar.TheVariants.UType}
 use Rattle.fb_schema.specs.{Rows.Rows, Live.Live, Served.HasTypeField, Served.IsTyped as IsTypedIn}
-use Rattle.fb_rules.specs.declared.checks.Checks.{Checks}
-use Rattle.fb_rules.specs.{Places.field_place, Tree.Kids, Tree.kid, Unfolds.FieldsUnfold}
-use Rattle.fb_rules.specs.{OffsetRows.IsTyped, Fields.IsPresent, Fields.IsField, Fields.type_place}
+use Rattle.fb_rules.specs.{declared.checks.Checks.Checks, Places.field_place, Tree.Kids, Tree.kid, Unfolds.FieldsUnfold, OffsetRows.IsTyped, Fields.IsPresent, Fields.IsField}
+use Rattle.fb_rules.specs.Fields.{type_place}
 
 pub get_take : {A : Type 0} (xs : List A) (m n : ℕ) → m < n → slice_get (take n xs) m ≡ slice_get xs m
 get_take xs m zero h = absurd (omega arith)

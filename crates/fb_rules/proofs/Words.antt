@@ -3,10 +3,9 @@ use Rattle.std.proofs.Common.{◌≡◌, ℕ, zero, suc, ◌+◌, ◌-◌, ◌^�
 use Rattle.std.proofs.lemmas.Bool.Decides.{nat_tests}
 use Rattle.fb_bytes.specs.Word.{word}
 use Rattle.fb_schema.specs.Rows.{Rows}
-use Rattle.fb_rules.specs.declared.{offset_row.Leads.Leads, offset_row.Leads.TheVariants.All, offset_row.Leads.TheVariants.ByType}
-use Rattle.fb_rules.specs.declared.{offset_row.Row.Row, offset_row.Referent.Referent}
-use Rattle.fb_rules.specs.{Fields.Lead, Fields.entry, Fields.row, Fields.union_row, Places.target}
-use Rattle.fb_rules.specs.OffsetRows.{lead_to, words, words_of, word_at, first_word, leads_after, past_first, AreLeads, IsReferent, IsRow, LeavesRow, PutsWords}
+use Rattle.fb_rules.specs.declared.offset_row.{Leads.Leads, Leads.TheVariants.All, Leads.TheVariants.ByType, Row.Row, Referent.Referent}
+use Rattle.fb_rules.specs.{Fields.Lead, Fields.entry, Fields.row, Fields.union_row, Places.target, OffsetRows.lead_to, OffsetRows.words, OffsetRows.words_of, OffsetRows.word_at}
+use Rattle.fb_rules.specs.OffsetRows.{first_word, leads_after, past_first, AreLeads, IsReferent, IsRow, LeavesRow, PutsWords}
 
 module _ (b : List ℕ) (S : Rows) where
   words-front : (leads : Leads) (p n : ℕ) → 0 < n → words b S leads p n ≡ word_at b S leads p ∷ words b S (leads_after leads) (p + 4) (n - 1)

@@ -1,10 +1,9 @@
 -- Tables of one object that share a vtable: what holds of one holds of those below it that are aligned alike.
 use Rattle.std.specs.Prelude.{◌≡◌, ◌⊎◌, ℕ, ◌+◌, ◌*◌, ◌%◌, ◌<◌, ◌≤◌, List, length, None}
 use Rattle.std.specs.List.{All}
-use Rattle.fb_schema.specs.declared.views.Act.TheVariants.{One, Two, Four, Eight}
-use Rattle.fb_schema.specs.declared.views.Step.{Step}
-use Rattle.fb_rules.specs.declared.{checks.Checks.Checks, passed.Passed.Passed, passed.Sizes.TheVariants.Small}
-use Rattle.fb_rules.specs.{Order.head_failure, Places.vtable, Plain.StepsHold, Plain.steps_reads, Plain.vtable_reads}
+use Rattle.fb_schema.specs.declared.views.{Act.TheVariants.One, Act.TheVariants.Two, Act.TheVariants.Four, Act.TheVariants.Eight, Step.Step}
+use Rattle.fb_rules.specs.{declared.checks.Checks.Checks, declared.passed.Passed.Passed, declared.passed.Sizes.TheVariants.Small, Order.head_failure, Places.vtable}
+use Rattle.fb_rules.specs.Plain.{StepsHold, steps_reads, vtable_reads}
 
 -- the step of a scalar or struct of 1, 2, 4 or 8 bytes, aligned to as many
 abbrev pub IsSmallStep : Step → Type 0

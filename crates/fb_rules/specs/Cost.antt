@@ -1,12 +1,11 @@
 -- What reading a tree costs, in counted reads.
 use Rattle.std.specs.Prelude.{ℕ, ◌+◌, if◌then◌else◌, List, [], ◌∷◌, Option, Some, None}
-use Rattle.fb_schema.specs.declared.kinds.Kind.{Kind}
-use Rattle.fb_schema.specs.declared.kinds.Kind.TheVariants.{Scalar, Text, Struct, Table, Union, Scalars, Texts, Structs, Tables, Unions}
+use Rattle.fb_schema.specs.declared.kinds.Kind.{Kind, TheVariants.Scalar, TheVariants.Text, TheVariants.Struct, TheVariants.Table, TheVariants.Union, TheVariants.Scalars}
+use Rattle.fb_schema.specs.declared.kinds.Kind.TheVariants.{Texts, Structs, Tables, Unions}
 use Rattle.fb_schema.specs.{Rows.Rows, Live.Live, Live.live_fields}
-use Rattle.fb_rules.specs.declared.checks.Checks.{Checks}
-use Rattle.fb_rules.specs.Places.{has_slot, field_place}
-use Rattle.fb_rules.specs.Fields.{type_place, Lead, to_table, to_struct, to_string, to_nothing, Entry, entries}
-use Rattle.fb_rules.specs.Tree.{Tree, node, Kids, no_kids, kid, Elements, no_elements, element, Element, leaf, table}
+use Rattle.fb_rules.specs.{declared.checks.Checks.Checks, Places.has_slot, Places.field_place, Fields.type_place, Fields.Lead, Fields.to_table, Fields.to_struct, Fields.to_string}
+use Rattle.fb_rules.specs.{Fields.to_nothing, Fields.Entry, Fields.entries, Tree.Tree, Tree.node, Tree.Kids, Tree.no_kids, Tree.kid, Tree.Elements, Tree.no_elements, Tree.element}
+use Rattle.fb_rules.specs.Tree.{Element, leaf, table}
 
 -- a table's head: its signed word, the vtable's size, and the inline size where that is checked
 abbrev pub head_reads : Checks → ℕ

@@ -1,16 +1,13 @@
 -- Examples: trees with their numbers, and faults with the trails that lead to them.
 use Rattle.std.specs.Prelude.{◌≡◌, ℕ, true, List, [], ◌∷◌, Some, None}
 use Rattle.fb_schema.specs.Rows.{Rows}
-use Rattle.fb_rules.specs.declared.{checks.Checks.Checks, fault.Fault.Fault}
-use Rattle.fb_rules.specs.declared.{start.Start.TheVariants.Bare, start.Ident.TheVariants.Any}
-use Rattle.fb_rules.specs.declared.fault.Reason.TheVariants.{Misaligned, ZeroOffset, TooDeep, TooManyTables, BadVtable, NoTerminator, LengthsDiffer, PastTable, TooManyReads}
-use Rattle.fb_rules.specs.Bounds.{Bounds, AreAllowed, AreTooMany, limits_of_length}
-use Rattle.fb_rules.specs.{Question.question, Places.target, WellFormed.IsStart, WellFormed.IsWellFormed, WellFormed.cost}
-use Rattle.fb_rules.specs.Way.{way_to_start, way_to_root}
-use Rattle.fb_rules.specs.Tree.{Tree, node, Kids, no_kids, kid, Elements, no_elements, element, leaf, table, size, depth}
-use Rattle.fb_rules.specs.Stops.{in_start, IsFalseAt, Trail, at_head, at_field, at_own, at_element, at_lead, through, IsTrail}
-use Rattle.fb_rules.specs.Samples.{published_checks, published_limits, fault, monsters, nodes, unions, orc, monster, open_name}
-use Rattle.fb_rules.specs.Samples.{one_member, odd_vtable, crooked_struct, two_members, three_values, every_kind, shared}
+use Rattle.fb_rules.specs.declared.{checks.Checks.Checks, fault.Fault.Fault, start.Start.TheVariants.Bare, start.Ident.TheVariants.Any, fault.Reason.TheVariants.Misaligned}
+use Rattle.fb_rules.specs.declared.fault.Reason.TheVariants.{ZeroOffset, TooDeep, TooManyTables, BadVtable, NoTerminator, LengthsDiffer, PastTable, TooManyReads}
+use Rattle.fb_rules.specs.{Bounds.Bounds, Bounds.AreAllowed, Bounds.AreTooMany, Bounds.limits_of_length, Question.question, Places.target, WellFormed.IsStart}
+use Rattle.fb_rules.specs.{WellFormed.IsWellFormed, WellFormed.cost, Way.way_to_start, Way.way_to_root, Tree.Tree, Tree.node, Tree.Kids, Tree.no_kids, Tree.kid, Tree.Elements}
+use Rattle.fb_rules.specs.{Tree.no_elements, Tree.element, Tree.leaf, Tree.table, Tree.size, Tree.depth, Stops.in_start, Stops.IsFalseAt, Stops.Trail, Stops.at_head}
+use Rattle.fb_rules.specs.{Stops.at_field, Stops.at_own, Stops.at_element, Stops.at_lead, Stops.through, Stops.IsTrail, Samples.published_checks, Samples.published_limits}
+use Rattle.fb_rules.specs.Samples.{fault, monsters, nodes, unions, orc, monster, open_name, one_member, odd_vtable, crooked_struct, two_members, three_values, every_kind, shared}
 
 -- under the published checks the buffer unfolds into this tree, with so many tables, so deep, for so many reads
 abbrev pub Counts : List ℕ → Rows → ℕ → Tree → ℕ → ℕ → ℕ → Type 0

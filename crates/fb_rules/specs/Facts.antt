@@ -1,8 +1,7 @@
 -- What must hold of a table's head, a uoffset, a string, a vector and a value that stands inline.
 use Rattle.std.specs.Prelude.{◌≡◌, ℕ, ◌+◌, ◌*◌, ◌%◌, ◌<◌, ◌≤◌, ◌⊎◌, IsTrue, List, length}
 use Rattle.fb_bytes.specs.Word.{word}
-use Rattle.fb_rules.specs.declared.checks.Checks.{Checks}
-use Rattle.fb_rules.specs.Places.{has_vtable, vtable, vtable_size, inline_size}
+use Rattle.fb_rules.specs.{declared.checks.Checks.Checks, Places.has_vtable, Places.vtable, Places.vtable_size, Places.inline_size}
 
 -- p is a multiple of its alignment, where alignment is checked
 abbrev pub IsAligned : Checks → ℕ → ℕ → Type 0

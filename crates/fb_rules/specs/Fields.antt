@@ -1,11 +1,10 @@
 -- What a field of a table must meet by itself, and the uoffsets by which it leads on.
 use Rattle.std.specs.Prelude.{◌≡◌, ℕ, zero, suc, ◌+◌, ◌-◌, IsFalse, List, [], ◌∷◌, Option, Some, None}
 use Rattle.fb_bytes.specs.Word.{word}
-use Rattle.fb_schema.specs.declared.kinds.Kind.{Kind}
-use Rattle.fb_schema.specs.declared.kinds.Kind.TheVariants.{Scalar, Text, Struct, Table, Union, Scalars, Texts, Structs, Tables, Unions}
+use Rattle.fb_schema.specs.declared.kinds.Kind.{Kind, TheVariants.Scalar, TheVariants.Text, TheVariants.Struct, TheVariants.Table, TheVariants.Union, TheVariants.Scalars}
+use Rattle.fb_schema.specs.declared.kinds.Kind.TheVariants.{Texts, Structs, Tables, Unions}
 use Rattle.fb_schema.specs.{Rows.Rows, Kinds.struct_size, Kinds.struct_align, Live.Live, Members.member_of}
-use Rattle.fb_rules.specs.declared.checks.Checks.{Checks}
-use Rattle.fb_rules.specs.{Places.target, Places.field_place, Facts.EndsInTable, Facts.IsOffset, Facts.IsVector, Facts.IsInline}
+use Rattle.fb_rules.specs.{declared.checks.Checks.Checks, Places.target, Places.field_place, Facts.EndsInTable, Facts.IsOffset, Facts.IsVector, Facts.IsInline}
 
 -- where the type field of the union with the slot o stands: its slot is the one before
 abbrev pub type_place : List ℕ → ℕ → ℕ → Option ℕ

@@ -2,16 +2,13 @@
 use Rattle.std.specs.Prelude.{◌≡◌, ◌↔◌, ◌⊎◌, ℕ, ◌+◌, ◌*◌, ◌<◌, ◌≤◌, List, [], ◌∷◌, ◌++◌, length, slice_index, Some, None, Result, Ok, Err}
 use Rattle.fb_bytes.specs.Word.{word}
 use Rattle.fb_schema.specs.{Rows.Rows, Live.Live}
-use Rattle.fb_rules.specs.declared.{checks.Checks.Checks, start.Start.Start, start.Ident.Ident}
-use Rattle.fb_rules.specs.declared.fault.Reason.TheVariants.{TooDeep, TooManyTables, TooManyReads}
-use Rattle.fb_rules.specs.declared.{fault.Fault.Fault, fault.Report.Report, link.Link.Link}
-use Rattle.fb_rules.specs.Bounds.{Bounds, AreAllowed, AreTooMany, limits_of_length}
-use Rattle.fb_rules.specs.{Question.Question, Places.target, Tree.Tree, Tree.size, Tree.depth, Unfolds.Unfolds, Cost.tree_cost, Way.Way}
-use Rattle.fb_rules.specs.{Stops.Trail, Stops.IsTrail, Stops.Stops, Links.StopsAlong, MostReads.most_reads, Verdict.Reports}
-use Rattle.fb_rules.specs.Facts.{IsTable, IsOffset, IsString, IsVector, IsInline}
-use Rattle.fb_rules.specs.Fields.{IsField, Lead, to_table, to_struct, to_string, to_nothing, Entry}
-use Rattle.fb_rules.specs.WellFormed.{IsStart, IsWellFormed, IsWithin, cost}
-use Rattle.fb_rules.specs.Order.{start_failure, head_failure, offset_failure, string_failure, vector_failure, inline_failure, own_failure, element_failure}
+use Rattle.fb_rules.specs.declared.{checks.Checks.Checks, start.Start.Start, start.Ident.Ident, fault.Reason.TheVariants.TooDeep, fault.Reason.TheVariants.TooManyTables}
+use Rattle.fb_rules.specs.{declared.fault.Reason.TheVariants.TooManyReads, declared.fault.Fault.Fault, declared.fault.Report.Report, declared.link.Link.Link, Bounds.Bounds}
+use Rattle.fb_rules.specs.{Bounds.AreAllowed, Bounds.AreTooMany, Bounds.limits_of_length, Question.Question, Places.target, Tree.Tree, Tree.size, Tree.depth, Unfolds.Unfolds}
+use Rattle.fb_rules.specs.{Cost.tree_cost, Way.Way, Stops.Trail, Stops.IsTrail, Stops.Stops, Links.StopsAlong, MostReads.most_reads, Verdict.Reports, Facts.IsTable, Facts.IsOffset}
+use Rattle.fb_rules.specs.{Facts.IsString, Facts.IsVector, Facts.IsInline, Fields.IsField, Fields.Lead, Fields.to_table, Fields.to_struct, Fields.to_string, Fields.to_nothing}
+use Rattle.fb_rules.specs.{Fields.Entry, WellFormed.IsStart, WellFormed.IsWellFormed, WellFormed.IsWithin, WellFormed.cost, Order.start_failure, Order.head_failure}
+use Rattle.fb_rules.specs.Order.{offset_failure, string_failure, vector_failure, inline_failure, own_failure, element_failure}
 
 -- a chain of tests finds nothing exactly where the facts hold
 

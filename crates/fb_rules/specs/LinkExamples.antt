@@ -1,10 +1,8 @@
 -- Examples of links: faults with those that lead to them.
 use Rattle.std.specs.Prelude.{ℕ, pos, true, List, [], ◌∷◌, codes, Option, Some, None}
 use Rattle.fb_schema.specs.Rows.{Rows}
-use Rattle.fb_rules.specs.declared.{start.Start.TheVariants.Bare, start.Ident.TheVariants.Any}
-use Rattle.fb_rules.specs.declared.fault.Reason.TheVariants.{OutOfBuffer, ZeroOffset, TooManyTables}
-use Rattle.fb_rules.specs.declared.{fault.Fault.Fault, link.Link.Link}
-use Rattle.fb_rules.specs.{Bounds.Bounds, Question.question, Links.StopsAlong}
+use Rattle.fb_rules.specs.declared.{start.Start.TheVariants.Bare, start.Ident.TheVariants.Any, fault.Reason.TheVariants.OutOfBuffer, fault.Reason.TheVariants.ZeroOffset}
+use Rattle.fb_rules.specs.{declared.fault.Reason.TheVariants.TooManyTables, declared.fault.Fault.Fault, declared.link.Link.Link, Bounds.Bounds, Question.question, Links.StopsAlong}
 pub use Rattle.fb_rules.specs.Samples.{fault}
 use Rattle.fb_rules.specs.Samples.{published_checks, published_limits, union_type, text, object, union, vector, field, table}
 

@@ -1,14 +1,12 @@
 -- The links of a trail: the fields that it goes through, from the root table on.
 use Rattle.std.specs.Prelude.{◌≡◌, ℕ, ◌+◌, ◌⊎◌, List, [], ◌∷◌, Option, Some, None, slice_get}
 use Rattle.fb_bytes.specs.Word.{word}
-use Rattle.fb_schema.specs.declared.kinds.Kind.{Kind}
-use Rattle.fb_schema.specs.declared.kinds.Kind.TheVariants.{Union, Texts, Tables, Unions}
+use Rattle.fb_schema.specs.declared.kinds.Kind.{Kind, TheVariants.Union, TheVariants.Texts, TheVariants.Tables, TheVariants.Unions}
 use Rattle.fb_schema.specs.{Rows.Rows, Live.Live, Live.live_fields}
-use Rattle.fb_rules.specs.declared.{checks.Checks.Checks, fault.Fault.Fault, link.Link.Link}
-use Rattle.fb_rules.specs.{Bounds.Bounds, Question.Question, Places.target, Tree.kids_length, Tree.elements_length}
-use Rattle.fb_rules.specs.{Way.Way, Way.way_to_start, Way.way_to_root, WellFormed.base, WellFormed.IsStart}
-use Rattle.fb_rules.specs.Fields.{type_place, union_type, types_begin, Lead, to_table, Entry, entries}
-use Rattle.fb_rules.specs.Stops.{in_start, IsFalseAt, Trail, at_head, at_field, FieldTrail, at_own, at_element, ElementTrail, at_lead, through, IsTrail}
+use Rattle.fb_rules.specs.{declared.checks.Checks.Checks, declared.fault.Fault.Fault, declared.link.Link.Link, Bounds.Bounds, Question.Question, Places.target, Tree.kids_length}
+use Rattle.fb_rules.specs.{Tree.elements_length, Way.Way, Way.way_to_start, Way.way_to_root, WellFormed.base, WellFormed.IsStart, Fields.type_place, Fields.union_type}
+use Rattle.fb_rules.specs.{Fields.types_begin, Fields.Lead, Fields.to_table, Fields.Entry, Fields.entries, Stops.in_start, Stops.IsFalseAt, Stops.Trail, Stops.at_head}
+use Rattle.fb_rules.specs.Stops.{at_field, FieldTrail, at_own, at_element, ElementTrail, at_lead, through, IsTrail}
 
 -- the number of an element with j others before it, where the field is a vector of what may lead on
 abbrev pub element_of : ℕ → Kind → Option ℕ

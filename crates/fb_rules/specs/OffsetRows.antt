@@ -1,16 +1,15 @@
 -- The uoffsets that are left of a field, as a walk keeps them.
 use Rattle.std.specs.Prelude.{◌≡◌, ℕ, ◌+◌, ◌-◌, ◌*◌, ◌<◌, ◌≤◌, ◌^◌, List, [], length, Some, Bool, true, false, IsTrue}
 use Rattle.fb_bytes.specs.Word.{Lent, word}
-use Rattle.fb_schema.specs.declared.{kinds.Kind.Kind, kinds.Kind.TheVariants.Union, kinds.Kind.TheVariants.Unions, views.Goal.Goal}
-use Rattle.fb_schema.specs.declared.{views.Target.Target, targets.Targets.Targets}
+use Rattle.fb_schema.specs.declared.{kinds.Kind.Kind, kinds.Kind.TheVariants.Union, kinds.Kind.TheVariants.Unions, views.Goal.Goal, views.Target.Target, targets.Targets.Targets}
 use Rattle.fb_schema.specs.declared.views.Goal.TheVariants.{Nothing as NoGoal, Text as TextGoal, Table as TableGoal, Struct as StructGoal}
-use Rattle.fb_schema.specs.{Rows.Rows, Rows.is_table, Rows.is_union, Members.member_of, Live.Live, Targets.target_at, Targets.target_of}
-use Rattle.fb_schema.specs.Served.{IsAlignment, IsServed, KindHolds}
-use Rattle.fb_rules.specs.declared.{checks.Checks.Checks, table.Table.Table, offset_row.Referent.Referent, offset_row.Leads.Leads}
-use Rattle.fb_rules.specs.declared.{offset_row.Leads.TheVariants.All, offset_row.Leads.TheVariants.ByType, offset_row.Row.Row}
-use Rattle.fb_rules.specs.declared.offset_row.Referent.TheVariants.{Text as AText, Table as ATable, Struct as AStruct, Nothing}
-use Rattle.fb_rules.specs.{Told.IsPlaced, Places.target, Cost.reads_if_present}
-use Rattle.fb_rules.specs.Fields.{type_place, union_type, Lead, to_table, to_struct, to_string, to_nothing, lead_of, Entry, entry, row, union_row}
+use Rattle.fb_schema.specs.{Rows.Rows, Rows.is_table, Rows.is_union, Members.member_of, Live.Live, Targets.target_at, Targets.target_of, Served.IsAlignment, Served.IsServed}
+use Rattle.fb_schema.specs.Served.{KindHolds}
+use Rattle.fb_rules.specs.declared.{checks.Checks.Checks, table.Table.Table, offset_row.Referent.Referent, offset_row.Leads.Leads, offset_row.Leads.TheVariants.All}
+use Rattle.fb_rules.specs.declared.offset_row.{Leads.TheVariants.ByType, Row.Row, Referent.TheVariants.Text as AText, Referent.TheVariants.Table as ATable}
+use Rattle.fb_rules.specs.{declared.offset_row.Referent.TheVariants.Struct as AStruct, declared.offset_row.Referent.TheVariants.Nothing, Told.IsPlaced, Places.target}
+use Rattle.fb_rules.specs.{Cost.reads_if_present, Fields.type_place, Fields.union_type, Fields.Lead, Fields.to_table, Fields.to_struct, Fields.to_string, Fields.to_nothing}
+use Rattle.fb_rules.specs.Fields.{lead_of, Entry, entry, row, union_row}
 
 -- where a uoffset leads that refers to this
 abbrev pub lead_to : Referent → Lead

@@ -2,15 +2,13 @@
 use Rattle.std.specs.Prelude.{◌≡◌, ◌⊎◌, ℕ, ◌+◌, ◌^◌, ◌<◌, ◌≤◌, ◌%◌, ◌==◌, ◌&&◌, nat_le, if◌then◌else◌, IsTrue, List, length, not, Option, Some, None, Result, IfOk, IfErr, false}
 use Rattle.std.specs.List.{All, sum_by}
 use Rattle.fb_bytes.specs.Word.{Lent}
-use Rattle.fb_schema.specs.declared.{views.Act.Act, views.Step.Step}
-use Rattle.fb_schema.specs.declared.views.Act.TheVariants.{One, Two, Four, Eight, Inline, Text, Vector, Other}
-use Rattle.fb_schema.specs.{Served.IsAlignment, Steps.bit_of}
-use Rattle.fb_rules.specs.declared.{plain.Came.Came, checks.Checks.Checks, fault.Reason.Reason}
-use Rattle.fb_rules.specs.declared.plain.Came.TheVariants.{Past, ToEnd, ToField, ToFault}
-use Rattle.fb_rules.specs.declared.fault.Reason.TheVariants.{OutOfBuffer, Misaligned, BadVtable, MissingRequired}
-use Rattle.fb_rules.specs.Places.{fits, is_aligned, has_vtable, vtable, field_place, has_slot, vtable_size}
-use Rattle.fb_rules.specs.{Fields.to_string, Cost.slot_reads}
-use Rattle.fb_rules.specs.Order.{Failure, check, after, ◌▷◌, table_failure, inline_field_failure, vector_field_failure, lead_failure}
+use Rattle.fb_schema.specs.declared.views.{Act.Act, Step.Step, Act.TheVariants.One, Act.TheVariants.Two, Act.TheVariants.Four, Act.TheVariants.Eight, Act.TheVariants.Inline}
+use Rattle.fb_schema.specs.{declared.views.Act.TheVariants.Text, declared.views.Act.TheVariants.Vector, declared.views.Act.TheVariants.Other, Served.IsAlignment, Steps.bit_of}
+use Rattle.fb_rules.specs.declared.{plain.Came.Came, checks.Checks.Checks, fault.Reason.Reason, plain.Came.TheVariants.Past, plain.Came.TheVariants.ToEnd}
+use Rattle.fb_rules.specs.declared.{plain.Came.TheVariants.ToField, plain.Came.TheVariants.ToFault, fault.Reason.TheVariants.OutOfBuffer, fault.Reason.TheVariants.Misaligned}
+use Rattle.fb_rules.specs.{declared.fault.Reason.TheVariants.BadVtable, declared.fault.Reason.TheVariants.MissingRequired, Places.fits, Places.is_aligned, Places.has_vtable}
+use Rattle.fb_rules.specs.{Places.vtable, Places.field_place, Places.has_slot, Places.vtable_size, Fields.to_string, Cost.slot_reads, Order.Failure, Order.check, Order.after}
+use Rattle.fb_rules.specs.Order.{◌▷◌, table_failure, inline_field_failure, vector_field_failure, lead_failure}
 
 -- the failure that a test tells at this position, after so many reads
 abbrev pub tested_by : ℕ → ℕ → Option Reason → Option Failure

@@ -1,8 +1,7 @@
 -- What is asked of a buffer.
 use Rattle.std.specs.Prelude.{ℕ}
 use Rattle.fb_schema.specs.Rows.{Rows}
-use Rattle.fb_rules.specs.declared.{checks.Checks.Checks, start.Start.Start, start.Ident.Ident}
-use Rattle.fb_rules.specs.Bounds.{Bounds}
+use Rattle.fb_rules.specs.{declared.checks.Checks.Checks, declared.start.Start.Start, declared.start.Ident.Ident, Bounds.Bounds}
 
 -- whether it unfolds by these rows from a root table of this object, how it begins, within which limits, and what is
 -- checked

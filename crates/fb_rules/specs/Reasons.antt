@@ -1,5 +1,5 @@
 -- What the reasons are called where they are told.
-use Rattle.std.specs.Prelude.{ℕ, List, codes}
+use Rattle.std.specs.Prelude.{ℕ, List, [], ◌∷◌, codes}
 use Rattle.fb_rules.specs.declared.fault.Reason.{Reason}
 use Rattle.fb_rules.specs.declared.fault.Reason.TheVariants.{WrongPrefix, OutOfBuffer, Misaligned, ZeroOffset, WrongIdentifier, TooDeep, TooManyTables, BadVtable}
 use Rattle.fb_rules.specs.declared.fault.Reason.TheVariants.{MissingRequired, NoTerminator, LengthsDiffer, PastTable, TooManyReads, FlexContent, NotUtf8, UnknownField}
@@ -23,7 +23,12 @@ reason_code FlexContent = (14, codes "V14 FlexContent")
 reason_code NotUtf8 = (15, codes "V15 NotUtf8")
 reason_code UnknownField = (16, codes "V16 UnknownField")
 
--- how many there are
+-- all in the order of their numbers, and how many they are
+abbrev pub reasons : List Reason
+reasons =
+    WrongPrefix ∷ OutOfBuffer ∷ Misaligned ∷ ZeroOffset ∷ WrongIdentifier ∷ TooDeep ∷ TooManyTables ∷ BadVtable
+    ∷ MissingRequired ∷ NoTerminator ∷ LengthsDiffer ∷ PastTable ∷ TooManyReads ∷ FlexContent ∷ NotUtf8 ∷ UnknownField ∷ []
+
 abbrev pub reason_count : ℕ
 reason_count = 16
 

@@ -1,9 +1,7 @@
 -- Schemas and buffers for examples.
 use Rattle.std.specs.Prelude.{ℕ, pos, true, false, List, [], ◌∷◌, Option, None}
-use Rattle.fb_schema.specs.declared.rows.TypeRow.{TypeRow}
-use Rattle.fb_schema.specs.Rows.{Field, Object, Rows}
-use Rattle.fb_rules.specs.declared.{checks.Checks.Checks, fault.Fault.Fault, fault.Reason.Reason}
-use Rattle.fb_rules.specs.Bounds.{Bounds}
+use Rattle.fb_schema.specs.{declared.rows.TypeRow.TypeRow, Rows.Field, Rows.Object, Rows.Rows}
+use Rattle.fb_rules.specs.{declared.checks.Checks.Checks, declared.fault.Fault.Fault, declared.fault.Reason.Reason, Bounds.Bounds}
 
 -- the published checks and limits
 abbrev pub published_checks : Checks

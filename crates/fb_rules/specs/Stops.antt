@@ -1,16 +1,12 @@
 -- The first place where a condition fails, and the fault that this is.
 use Rattle.std.specs.Prelude.{◌≡◌, ℕ, ◌+◌, ◌⊎◌, nat_lt, List, Option, Some, None, take, slice_get}
 use Rattle.fb_schema.specs.{Rows.Rows, Live.Live, Live.live_fields}
-use Rattle.fb_rules.specs.declared.{checks.Checks.Checks, start.Start.Start, start.Ident.Ident}
-use Rattle.fb_rules.specs.declared.fault.Reason.TheVariants.{TooDeep, TooManyTables, TooManyReads}
-use Rattle.fb_rules.specs.declared.fault.Fault.{Fault}
-use Rattle.fb_rules.specs.{Bounds.Bounds, Bounds.allowed, Question.Question, Places.target, Facts.IsTable, Facts.IsOffset}
-use Rattle.fb_rules.specs.{Unfolds.FieldsUnfold, Unfolds.ElementsUnfold, Cost.head_reads, Cost.own_reads, Cost.lead_reads}
-use Rattle.fb_rules.specs.WellFormed.{base, start_reads, IsStart}
-use Rattle.fb_rules.specs.Fields.{IsField, Lead, to_table, Entry, entries}
-use Rattle.fb_rules.specs.Tree.{Kids, kids_length, Elements, elements_length}
-use Rattle.fb_rules.specs.Order.{Failure, check, ◌▷◌, start_failure, head_failure, own_failure, element_failure}
-use Rattle.fb_rules.specs.Way.{Way, way_to_start, way_to_root, way_to_field, way_to_element, way_to_table, StaysWithin}
+use Rattle.fb_rules.specs.declared.{checks.Checks.Checks, start.Start.Start, start.Ident.Ident, fault.Reason.TheVariants.TooDeep, fault.Reason.TheVariants.TooManyTables}
+use Rattle.fb_rules.specs.{declared.fault.Reason.TheVariants.TooManyReads, declared.fault.Fault.Fault, Bounds.Bounds, Bounds.allowed, Question.Question, Places.target}
+use Rattle.fb_rules.specs.{Facts.IsTable, Facts.IsOffset, Unfolds.FieldsUnfold, Unfolds.ElementsUnfold, Cost.head_reads, Cost.own_reads, Cost.lead_reads, WellFormed.base}
+use Rattle.fb_rules.specs.{WellFormed.start_reads, WellFormed.IsStart, Fields.IsField, Fields.Lead, Fields.to_table, Fields.Entry, Fields.entries, Tree.Kids, Tree.kids_length}
+use Rattle.fb_rules.specs.{Tree.Elements, Tree.elements_length, Order.Failure, Order.check, Order.◌▷◌, Order.start_failure, Order.head_failure, Order.own_failure}
+use Rattle.fb_rules.specs.{Order.element_failure, Way.Way, Way.way_to_start, Way.way_to_root, Way.way_to_field, Way.way_to_element, Way.way_to_table, Way.StaysWithin}
 
 -- a place where conditions are asked: the start, the head of the table at t of the object k, the field g of the table
 -- at t before its elements, or an element of a field

@@ -1,17 +1,16 @@
 -- Examples of the tests of Order.antt: bytes that pass or fail each of them, most of them beside the tests around it.
 use Rattle.std.specs.Prelude.{◌≡◌, ℕ, true, false, List, [], ◌∷◌, Option, Some, None}
-use Rattle.fb_schema.specs.declared.{kinds.Scalar.TheVariants.Short, kinds.Scalar.TheVariants.Int, kinds.Scalar.TheVariants.Long, kinds.Kind.Kind}
-use Rattle.fb_schema.specs.declared.kinds.Kind.TheVariants.{Scalar, Text, Struct, Table, Union, Scalars, Texts, Structs, Tables, Unions}
+use Rattle.fb_schema.specs.declared.kinds.{Scalar.TheVariants.Short, Scalar.TheVariants.Int, Scalar.TheVariants.Long, Kind.Kind, Kind.TheVariants.Scalar, Kind.TheVariants.Text}
+use Rattle.fb_schema.specs.declared.kinds.Kind.TheVariants.{Struct, Table, Union, Scalars, Texts, Structs, Tables, Unions}
 use Rattle.fb_schema.specs.{Live.Live, LookUps.live}
-use Rattle.fb_rules.specs.declared.{checks.Checks.Checks, fault.Reason.Reason}
-use Rattle.fb_rules.specs.declared.start.Start.TheVariants.{Bare, Prefixed}
-use Rattle.fb_rules.specs.declared.start.Ident.{Ident, TheVariants.Any, TheVariants.Want}
-use Rattle.fb_rules.specs.declared.fault.Reason.TheVariants.{WrongPrefix, OutOfBuffer, Misaligned, ZeroOffset, WrongIdentifier, TooDeep, TooManyTables}
-use Rattle.fb_rules.specs.declared.fault.Reason.TheVariants.{BadVtable, MissingRequired, NoTerminator, LengthsDiffer, PastTable, TooManyReads}
-use Rattle.fb_rules.specs.{Bounds.Bounds, Way.Way, Samples.published_checks, Samples.fault, Samples.unions}
-use Rattle.fb_rules.specs.Fields.{to_table, to_struct, to_string, to_nothing, entry}
-use Rattle.fb_rules.specs.Order.{Failure, prefix_failure, ident_failure, offset_failure, start_failure, head_failure, string_failure, vector_failure, inline_failure, own_failure, element_failure}
-use Rattle.fb_rules.specs.Stops.{in_start, in_head, in_field, in_element, fault_at}
+use Rattle.fb_rules.specs.declared.{checks.Checks.Checks, fault.Reason.Reason, start.Start.TheVariants.Bare, start.Start.TheVariants.Prefixed, start.Ident.Ident}
+use Rattle.fb_rules.specs.declared.{start.Ident.TheVariants.Any, start.Ident.TheVariants.Want, fault.Reason.TheVariants.WrongPrefix, fault.Reason.TheVariants.OutOfBuffer}
+use Rattle.fb_rules.specs.declared.fault.Reason.TheVariants.{Misaligned, ZeroOffset, WrongIdentifier, TooDeep, TooManyTables, BadVtable, MissingRequired, NoTerminator}
+use Rattle.fb_rules.specs.declared.fault.Reason.TheVariants.{LengthsDiffer, PastTable, TooManyReads}
+use Rattle.fb_rules.specs.{Bounds.Bounds, Way.Way, Samples.published_checks, Samples.fault, Samples.unions, Fields.to_table, Fields.to_struct, Fields.to_string, Fields.to_nothing}
+use Rattle.fb_rules.specs.{Fields.entry, Order.Failure, Order.prefix_failure, Order.ident_failure, Order.offset_failure, Order.start_failure, Order.head_failure}
+use Rattle.fb_rules.specs.{Order.string_failure, Order.vector_failure, Order.inline_failure, Order.own_failure, Order.element_failure, Stops.in_start, Stops.in_head}
+use Rattle.fb_rules.specs.Stops.{in_field, in_element, fault_at}
 
 -- a chain finds this
 abbrev pub found : Reason → ℕ → ℕ → Option Failure

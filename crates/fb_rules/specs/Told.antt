@@ -2,8 +2,7 @@
 use Rattle.std.specs.Prelude.{◌%◌, ◌≡◌, ℕ, ◌+◌, ◌≤◌, ◌<◌, ◌^◌, IsTrue, List, length, Option, Some, None, Result, IfOk, IfErr}
 use Rattle.fb_bytes.specs.Word.{Lent}
 use Rattle.fb_rules.specs.declared.{checks.Checks.Checks, fault.Fault.Fault, site.Site.Site, site.Refusal.Refusal, site.Stop.Stop, table.Head.Head}
-use Rattle.fb_rules.specs.{Places.vtable, Places.vtable_size, Places.inline_size, Bounds.Bounds, Bounds.AreAllowed, Stops.reads_failure, Way.Way}
-use Rattle.fb_rules.specs.Order.{Failure, ◌▷◌}
+use Rattle.fb_rules.specs.{Places.vtable, Places.vtable_size, Places.inline_size, Bounds.Bounds, Bounds.AreAllowed, Stops.reads_failure, Way.Way, Order.Failure, Order.◌▷◌}
 
 -- the fault that a failure is, at this site and after so many reads
 abbrev pub told : Site → ℕ → Option Failure → Option Fault

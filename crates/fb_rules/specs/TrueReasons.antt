@@ -1,19 +1,17 @@
 -- What is false where a buffer stops, by the reason of the fault and its position, said without an order of tests.
 use Rattle.std.specs.Prelude.{◌≡◌, ◌≢◌, ℕ, suc, ◌+◌, ◌*◌, ◌%◌, ◌<◌, ◌≤◌, ◌⊎◌, IsTrue, IsFalse, List, length, slice_get, Option, Some, None}
 use Rattle.fb_bytes.specs.Word.{word}
-use Rattle.fb_schema.specs.declared.kinds.Kind.{Kind}
-use Rattle.fb_schema.specs.declared.kinds.Kind.TheVariants.{Scalar, Text, Struct, Table, Union, Scalars, Texts, Structs, Tables, Unions}
+use Rattle.fb_schema.specs.declared.kinds.Kind.{Kind, TheVariants.Scalar, TheVariants.Text, TheVariants.Struct, TheVariants.Table, TheVariants.Union, TheVariants.Scalars}
+use Rattle.fb_schema.specs.declared.kinds.Kind.TheVariants.{Texts, Structs, Tables, Unions}
 use Rattle.fb_schema.specs.{Rows.Rows, Live.Live, Live.live_fields}
-use Rattle.fb_rules.specs.declared.{checks.Checks.Checks, fault.Fault.Fault, fault.Reason.Reason}
-use Rattle.fb_rules.specs.declared.start.Start.{Start, TheVariants.Prefixed}
-use Rattle.fb_rules.specs.declared.start.Ident.{Ident, TheVariants.Want}
-use Rattle.fb_rules.specs.declared.fault.Reason.TheVariants.{WrongPrefix, OutOfBuffer, Misaligned, ZeroOffset, WrongIdentifier, TooDeep, TooManyTables}
-use Rattle.fb_rules.specs.declared.fault.Reason.TheVariants.{BadVtable, MissingRequired, NoTerminator, LengthsDiffer, PastTable, TooManyReads}
-use Rattle.fb_rules.specs.{Bounds.Bounds, Bounds.AreTooMany, Question.Question, Facts.IsTable, Facts.IsOffset, Tree.kids_size, Tree.elements_size}
-use Rattle.fb_rules.specs.{WellFormed.base, WellFormed.IsStart, Way.way_to_root}
-use Rattle.fb_rules.specs.Places.{target, has_vtable, vtable, vtable_size, inline_size, field_place}
-use Rattle.fb_rules.specs.Fields.{IsField, type_place, type_count, Lead, to_table, to_struct, to_string, to_nothing, Entry, entries}
-use Rattle.fb_rules.specs.Stops.{Trail, at_head, at_field, FieldTrail, at_own, at_element, ElementTrail, at_lead, through, IsTrail, Stops}
+use Rattle.fb_rules.specs.declared.{checks.Checks.Checks, fault.Fault.Fault, fault.Reason.Reason, start.Start.Start, start.Start.TheVariants.Prefixed, start.Ident.Ident}
+use Rattle.fb_rules.specs.declared.{start.Ident.TheVariants.Want, fault.Reason.TheVariants.WrongPrefix, fault.Reason.TheVariants.OutOfBuffer, fault.Reason.TheVariants.Misaligned}
+use Rattle.fb_rules.specs.declared.fault.Reason.TheVariants.{ZeroOffset, WrongIdentifier, TooDeep, TooManyTables, BadVtable, MissingRequired, NoTerminator, LengthsDiffer}
+use Rattle.fb_rules.specs.{declared.fault.Reason.TheVariants.PastTable, declared.fault.Reason.TheVariants.TooManyReads, Bounds.Bounds, Bounds.AreTooMany, Question.Question}
+use Rattle.fb_rules.specs.{Facts.IsTable, Facts.IsOffset, Tree.kids_size, Tree.elements_size, WellFormed.base, WellFormed.IsStart, Way.way_to_root, Places.target}
+use Rattle.fb_rules.specs.{Places.has_vtable, Places.vtable, Places.vtable_size, Places.inline_size, Places.field_place, Fields.IsField, Fields.type_place, Fields.type_count}
+use Rattle.fb_rules.specs.{Fields.Lead, Fields.to_table, Fields.to_struct, Fields.to_string, Fields.to_nothing, Fields.Entry, Fields.entries, Stops.Trail, Stops.at_head}
+use Rattle.fb_rules.specs.Stops.{at_field, FieldTrail, at_own, at_element, ElementTrail, at_lead, through, IsTrail, Stops}
 
 -- The parts of a buffer: what is false of each, by the reason and the position that are told.
 

@@ -1,11 +1,9 @@
 -- When the bytes at a place unfold by the schema into a tree.
 use Rattle.std.specs.Prelude.{◌≡◌, ℕ, List, [], ◌∷◌}
 use Rattle.fb_schema.specs.{Rows.Rows, Live.Live, Live.live_fields}
-use Rattle.fb_rules.specs.declared.checks.Checks.{Checks}
-use Rattle.fb_rules.specs.Places.{target}
-use Rattle.fb_rules.specs.Facts.{IsTable, IsOffset, IsString, IsInline}
-use Rattle.fb_rules.specs.Fields.{IsField, Lead, to_table, to_struct, to_string, to_nothing, Entry, entries}
-use Rattle.fb_rules.specs.Tree.{Tree, node, Kids, no_kids, kid, Elements, no_elements, element, Element, leaf, table}
+use Rattle.fb_rules.specs.{declared.checks.Checks.Checks, Places.target, Facts.IsTable, Facts.IsOffset, Facts.IsString, Facts.IsInline, Fields.IsField, Fields.Lead}
+use Rattle.fb_rules.specs.{Fields.to_table, Fields.to_struct, Fields.to_string, Fields.to_nothing, Fields.Entry, Fields.entries, Tree.Tree, Tree.node, Tree.Kids, Tree.no_kids}
+use Rattle.fb_rules.specs.Tree.{kid, Elements, no_elements, element, Element, leaf, table}
 
 unfoldable mutual
   -- the table at t, of the object k, unfolds into this tree

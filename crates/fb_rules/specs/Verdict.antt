@@ -1,7 +1,6 @@
 -- What a verdict says of a buffer.
 use Rattle.std.specs.Prelude.{◌≡◌, ℕ, List}
-use Rattle.fb_rules.specs.declared.fault.Report.{Report}
-use Rattle.fb_rules.specs.{Question.Question, Tree.Tree, Tree.size, Tree.depth, WellFormed.IsWellFormed, WellFormed.IsWithin, WellFormed.cost}
+use Rattle.fb_rules.specs.{declared.fault.Report.Report, Question.Question, Tree.Tree, Tree.size, Tree.depth, WellFormed.IsWellFormed, WellFormed.IsWithin, WellFormed.cost}
 
 -- a tree is well formed and within the limits, and the report counts it
 pub record Reports (q : Question) (b : List ℕ) (r : Report) : Type 0 where

@@ -1,10 +1,9 @@
 -- The way to a place: what lies before it.
 use Rattle.std.specs.Prelude.{ℕ, ◌+◌, ◌-◌, ◌≤◌, max, List, Option, Some, None}
 use Rattle.fb_schema.specs.{Rows.Rows, Live.Live, Live.live_fields}
-use Rattle.fb_rules.specs.declared.{checks.Checks.Checks, start.Start.Start, start.Ident.Ident}
-use Rattle.fb_rules.specs.{Bounds.Bounds, Bounds.AreAllowed, Fields.Entry, Fields.entries, WellFormed.start_reads}
-use Rattle.fb_rules.specs.Tree.{Tree, size, depth, Kids, kids_size, kids_depth, Elements, elements_size, elements_depth}
-use Rattle.fb_rules.specs.Cost.{head_reads, own_reads, tree_cost, kids_cost, elements_cost}
+use Rattle.fb_rules.specs.{declared.checks.Checks.Checks, declared.start.Start.Start, declared.start.Ident.Ident, Bounds.Bounds, Bounds.AreAllowed, Fields.Entry, Fields.entries}
+use Rattle.fb_rules.specs.{WellFormed.start_reads, Tree.Tree, Tree.size, Tree.depth, Tree.Kids, Tree.kids_size, Tree.kids_depth, Tree.Elements, Tree.elements_size}
+use Rattle.fb_rules.specs.{Tree.elements_depth, Cost.head_reads, Cost.own_reads, Cost.tree_cost, Cost.kids_cost, Cost.elements_cost}
 
 -- the open tables, the tables passed with these, the greatest number that were open at once, the reads paid, those of
 -- them that lead to a table and are asked with its head, and the object and field of the innermost open table

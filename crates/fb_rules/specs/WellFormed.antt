@@ -1,10 +1,9 @@
 -- A whole buffer: its start and its tree.
 use Rattle.std.specs.Prelude.{◌≡◌, ℕ, ◌+◌, ◌≤◌, List, length}
 use Rattle.fb_bytes.specs.Word.{word}
-use Rattle.fb_rules.specs.declared.{checks.Checks.Checks, start.Start.Start, start.Start.TheVariants.Bare, start.Start.TheVariants.Prefixed}
-use Rattle.fb_rules.specs.declared.{start.Ident.Ident, start.Ident.TheVariants.Any, start.Ident.TheVariants.Want}
-use Rattle.fb_rules.specs.{Bounds.AreAllowed, Question.Question, Places.target, Facts.IsOffset, Tree.Tree, Tree.size, Tree.depth, Unfolds.Unfolds}
-use Rattle.fb_rules.specs.Cost.{tree_cost}
+use Rattle.fb_rules.specs.declared.{checks.Checks.Checks, start.Start.Start, start.Start.TheVariants.Bare, start.Start.TheVariants.Prefixed, start.Ident.Ident}
+use Rattle.fb_rules.specs.{declared.start.Ident.TheVariants.Any, declared.start.Ident.TheVariants.Want, Bounds.AreAllowed, Question.Question, Places.target, Facts.IsOffset}
+use Rattle.fb_rules.specs.{Tree.Tree, Tree.size, Tree.depth, Unfolds.Unfolds, Cost.tree_cost}
 
 -- where the root offset stands
 abbrev pub base : Start → ℕ

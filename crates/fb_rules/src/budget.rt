@@ -1,8 +1,7 @@
 // The budget of reads.
 
 ghost use Rattle.std.specs.Prelude.{◌≡◌, ℕ, ◌<◌, List, Option, Some, None, IfOk, IfErr, false};
-ghost use Rattle.fb_rules.specs.{Bounds.AreAllowed, Bounds.allowed, Order.Failure, Plain.IsTested, Told.IsAskedAt};
-ghost use Rattle.fb_rules.specs.declared.fault.Reason.TheVariants.{TooManyReads};
+ghost use Rattle.fb_rules.specs.{Bounds.AreAllowed, Bounds.allowed, Order.Failure, Plain.IsTested, Told.IsAskedAt, declared.fault.Reason.TheVariants.TooManyReads};
 
 use crate::fault::Reason;
 use crate::limits::{Limits, allows};

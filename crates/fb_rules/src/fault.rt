@@ -1,14 +1,14 @@
 // What is answered of a buffer.
 
-ghost use Rattle.std.specs.Prelude.{◌≡◌, ◌≤◌, length};
-ghost use Rattle.fb_rules.specs.Reasons.{reason_text};
+ghost use Rattle.std.specs.Prelude.{◌≡◌, ◌≤◌, MatchOption, length};
+ghost use Rattle.fb_rules.specs.Reasons.{reason_number, reason_text};
 
 /// How many reasons there are.
 pub const REASONS: usize = 16;
 
-/// Why a buffer is refused, by the codes V1 to V16 in their order. What is asked is said by FlatBuffers Internals; the
-/// order in which it is asked, and the position that each fault names, by the project. A walk answers V1 to V13; the
-/// others are those of a strict check alone.
+/// Why a buffer is refused, in the order of the codes. What is asked is said by FlatBuffers Internals; the order in
+/// which it is asked, and the position that each fault names, by the project. A walk answers V1 to V13; the others are
+/// those of a strict check alone.
 #[derive(Clone, Copy, Debug, PartialEq, Eq)]
 pub enum Reason {
     /// V1: the prefix isn't the number of the bytes after it.
@@ -68,6 +68,31 @@ impl Reason {
             Reason::FlexContent => "V14 FlexContent",
             Reason::NotUtf8 => "V15 NotUtf8",
             Reason::UnknownField => "V16 UnknownField",
+        }
+    }
+
+    /// The reason of this number, if one has it.
+    pub fn of(number: u32) -> Option<Self>
+        ensures { MatchOption result ((r : Reason) → reason_number r ≡ number → ⊥) (λ r. reason_number r ≡ number) }
+    {
+        match number {
+            1 => Some(Reason::WrongPrefix),
+            2 => Some(Reason::OutOfBuffer),
+            3 => Some(Reason::Misaligned),
+            4 => Some(Reason::ZeroOffset),
+            5 => Some(Reason::WrongIdentifier),
+            6 => Some(Reason::TooDeep),
+            7 => Some(Reason::TooManyTables),
+            8 => Some(Reason::BadVtable),
+            9 => Some(Reason::MissingRequired),
+            10 => Some(Reason::NoTerminator),
+            11 => Some(Reason::LengthsDiffer),
+            12 => Some(Reason::PastTable),
+            13 => Some(Reason::TooManyReads),
+            14 => Some(Reason::FlexContent),
+            15 => Some(Reason::NotUtf8),
+            16 => Some(Reason::UnknownField),
+            _ => None,
         }
     }
 }

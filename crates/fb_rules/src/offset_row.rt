@@ -2,9 +2,8 @@
 
 ghost use Rattle.std.specs.Prelude.{◌≡◌, ◌+◌, ◌-◌, ◌<◌, ◌^◌, IsTrue};
 ghost use Rattle.fb_schema.specs.{Rows.is_union, Members.member_of, Served.IsServed};
-ghost use Rattle.fb_rules.specs.Fields.{lead_of};
-ghost use Rattle.fb_rules.specs.OffsetRows.{past_first, lead_to, referent_of, AreAll, AreTypesNear, AreUnionTargets, IsReferent};
-ghost use Rattle.fb_rules.specs.declared.offset_row.Leads.TheVariants.{All};
+ghost use Rattle.fb_rules.specs.{Fields.lead_of, OffsetRows.past_first, OffsetRows.lead_to, OffsetRows.referent_of, OffsetRows.AreAll, OffsetRows.AreTypesNear};
+ghost use Rattle.fb_rules.specs.{OffsetRows.AreUnionTargets, OffsetRows.IsReferent, declared.offset_row.Leads.TheVariants.All};
 
 use fb_schema::{Goal, Schema, Target, Targets};
 

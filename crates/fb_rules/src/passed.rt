@@ -2,8 +2,7 @@
 
 ghost use Rattle.std.specs.Prelude.{◌≡◌, true};
 ghost use Rattle.std.specs.List.{All};
-ghost use Rattle.fb_rules.specs.Alike.{IsSmallStep, IsLike};
-ghost use Rattle.fb_rules.specs.declared.passed.Sizes.TheVariants.{Small};
+ghost use Rattle.fb_rules.specs.{Alike.IsSmallStep, Alike.IsLike, declared.passed.Sizes.TheVariants.Small};
 
 use fb_schema::{Act, Step};
 

@@ -4,15 +4,13 @@
 ghost use Rattle.std.specs.Prelude.{◌≡◌, ℕ, ◌+◌, ◌*◌, ◌^◌, ◌<◌, ◌≤◌, ◌%◌, ◌==◌, length, Some, None, IfSome, MatchOption, IsTrue, false};
 ghost use Rattle.fb_bytes.specs.Word.{word};
 ghost use Rattle.fb_schema.specs.Served.{IsAlignment};
-ghost use Rattle.fb_rules.specs.Places.{fits, target, has_slot, vtable, field_place};
-ghost use Rattle.fb_rules.specs.{Cost.head_reads, Cost.slot_reads, Cost.lead_reads, Fields.to_string, OffsetRows.lead_to, OffsetRows.IsSized};
-ghost use Rattle.fb_rules.specs.Told.{IsVtable, IsHead, IsPlaced};
-ghost use Rattle.fb_rules.specs.declared.offset_row.Referent.TheVariants.{Table as ATable};
-ghost use Rattle.fb_rules.specs.declared.plain.Came.TheVariants.{Past, ToFault};
-ghost use Rattle.fb_rules.specs.declared.fault.Reason.TheVariants.{OutOfBuffer, Misaligned};
-ghost use Rattle.fb_rules.specs.Order.{after, head_failure, table_failure, offset_failure, string_failure, vector_failure, inline_failure, inline_field_failure, vector_field_failure, lead_failure};
-ghost use Rattle.fb_rules.specs.declared.plain.Standing.TheVariants.{Known};
-ghost use Rattle.fb_rules.specs.Plain.{StandsAt, tested_by, vtable_failure, vtable_reads, FindsVtable, IsTested, IsSmall, place_from, IsStep, HasBit, IsCame, Filled, Stepped};
+ghost use Rattle.fb_rules.specs.{Places.fits, Places.target, Places.has_slot, Places.vtable, Places.field_place, Cost.head_reads, Cost.slot_reads, Cost.lead_reads};
+ghost use Rattle.fb_rules.specs.{Fields.to_string, OffsetRows.lead_to, OffsetRows.IsSized, Told.IsVtable, Told.IsHead, Told.IsPlaced};
+ghost use Rattle.fb_rules.specs.declared.{offset_row.Referent.TheVariants.Table as ATable, plain.Came.TheVariants.Past, plain.Came.TheVariants.ToFault};
+ghost use Rattle.fb_rules.specs.{declared.fault.Reason.TheVariants.OutOfBuffer, declared.fault.Reason.TheVariants.Misaligned, Order.after, Order.head_failure, Order.table_failure};
+ghost use Rattle.fb_rules.specs.Order.{offset_failure, string_failure, vector_failure, inline_failure, inline_field_failure, vector_field_failure, lead_failure};
+ghost use Rattle.fb_rules.specs.{declared.plain.Standing.TheVariants.Known, Plain.StandsAt, Plain.tested_by, Plain.vtable_failure, Plain.vtable_reads, Plain.FindsVtable};
+ghost use Rattle.fb_rules.specs.Plain.{IsTested, IsSmall, place_from, IsStep, HasBit, IsCame, Filled, Stepped};
 
 use crate::checks::Checks;
 use crate::fault::Reason;

@@ -1,9 +1,8 @@
 -- Lines after lines.
 use Rattle.std.proofs.Common.{◌≡◌, ℕ, ◌+◌, List, [], ◌∷◌, ◌++◌, refl, sym, ap, subst, ◌∙◌, arith}
-use Rattle.fb_run.specs.{Job.Job, Job.Verdict, Line.IsTold, AllTold.AreTold, Spot.Before, Spot.IsDue, Spot.at_first, Spot.past, Spot.past_all, Sums.tally_with, Texts.Texts, Texts.followed, Texts.silent}
-use Rattle.fb_run.specs.declared.tally.Tally.{Tally}
-use Rattle.fb_run.proofs.SumsLemmas.{with_both}
-use Rattle.fb_run.proofs.TextsLemmas.{followed_assoc, followed_silent}
+use Rattle.fb_run.specs.{Job.Job, Job.Verdict, Line.IsTold, AllTold.AreTold, Spot.Before, Spot.IsDue, Spot.at_first, Spot.past, Spot.past_all, Sums.tally_with, Texts.Texts}
+use Rattle.fb_run.specs.{Texts.followed, Texts.silent, declared.tally.Tally.Tally}
+use Rattle.fb_run.proofs.{SumsLemmas.with_both, TextsLemmas.followed_assoc, TextsLemmas.followed_silent}
 
 -- what stands before so many messages, and then behind these
 abbrev before_with : Before → Tally → Before

@@ -1,24 +1,15 @@
 -- The text of values.
-use Rattle.std.proofs.Common.{◌≡◌, ℕ, ◌+◌, ◌<◌, List, [], ◌∷◌, ◌++◌, map, append-nil, append_assoc, arith, drop, length, take, get_or, refl, sym, ap, ◌∙◌}
+use Rattle.std.proofs.Common.{◌≡◌, ℕ, ◌<◌, List, [], ◌∷◌, ◌++◌, map, append-nil, append_assoc, arith, drop, length, take, get_or, refl, sym, ap, ◌∙◌}
 use Rattle.std.specs.List.{flat_map}
-use Rattle.std.proofs.lemmas.{Grind.flat_map-append, List.flat_map_more, List.take_more}
+use Rattle.std.proofs.lemmas.{Grind.flat_map-append, List.flat_map_more}
 use Rattle.fb_run.proofs.InPieces.{front-more}
-use Rattle.fb_access.specs.Denotes.{shown}
-use Rattle.fb_access.specs.declared.answer.Answer.{Answer}
+use Rattle.fb_access.specs.{Denotes.shown, declared.answer.Answer.Answer}
 use Rattle.hex.specs.Hex.{encode_lower, encode_with}
-use Rattle.fb_run.specs.AnswerText.{answers_text, byte_text, spaced_answer, spelled}
-use Rattle.fb_run.specs.declared.value_text.Spelling.TheVariants.{Digits}
+use Rattle.fb_run.specs.{AnswerText.answers_text, AnswerText.byte_text, AnswerText.spaced_answer, AnswerText.spelled, declared.value_text.Spelling.TheVariants.Digits}
 
 -- one byte more
 pub texts_more : (xs : List ℕ) (b : ℕ) → flat_map byte_text (xs ++ b ∷ []) ≡ flat_map byte_text xs ++ byte_text b
 texts_more xs b = sym (flat_map_more byte_text [] xs b)
-
--- the text of one item more
-pub each_added : {A : Type 0} (f : A → List ℕ) (items : List A) (i : ℕ) (d : A) (before : List ℕ) {now after : List ℕ} → i < length items → now ≡ before ++ flat_map f (take i items)
-    → after ≡ now ++ f (get_or items i d) → after ≡ before ++ flat_map f (take (i + 1) items)
-each_added f items i d before inside first second =
-    second ∙ ap (λ l. l ++ f (get_or items i d)) first ∙ flat_map_more f before (take i items) (get_or items i d)
-    ∙ ap (λ l. before ++ flat_map f l) (sym (take_more items i d inside))
 
 -- a front that is written as it is, or the next byte, behind what was written before
 pub front_spelled : (f : ℕ → List ℕ) (front rest : List ℕ) (n : ℕ) (more : List ℕ) → more ≡ flat_map f (take n rest) → flat_map f (front ++ take n rest) ≡ flat_map f front ++ more

@@ -2,20 +2,17 @@
 use Rattle.std.proofs.Common.{◌≡◌, ◌∙◌, ℕ, ◌+◌, ◌-◌, List, [], Option, Some, None, Ok, Err, OnOk, ap, arith, false, length, length-append, refl, subst, sym, take}
 use mathlib.Core.Logic.{◌⊎◌, inl, inr}
 use Rattle.std.specs.Io.KnownBytes.{Appends, Keeps}
-use Rattle.std.proofs.KnownBytes.{Keeps-refl}
-use Rattle.std.proofs.lemmas.List.{append-nil, nil_from_length}
-use Rattle.std.proofs.Math.Seq.{take-append_seam}
+use Rattle.std.proofs.{KnownBytes.Keeps-refl, lemmas.List.append-nil, lemmas.List.nil_from_length, Math.Seq.take-append_seam}
 use Rattle.fb_bytes.specs.declared.ends.Sink as sink
-use Rattle.fb_run.specs.{AllTold.TakesFront, AllTold.WritesFront, AllTold.WritesFronts, Bare.IsBareInput, Bare.WritesPart, Ends.Outs, Ends.Reader, Ends.Writer, Ends.all_outs, Ends.beside, Faults.End}
+use Rattle.fb_run.specs.{AllTold.TakesFront, AllTold.WritesFront, AllTold.WritesFronts, Bare.IsBareInput, Bare.WhyBare, Bare.WritesPart, Ends.Outs, Ends.Reader, Ends.Writer, Ends.all_outs, Ends.beside, Faults.End}
 use Rattle.fb_run.specs.{Faults.EndsBeside, Job.Job, Job.Verdict, Job.checked_in, Line.IsLine, Line.SaidBy, Pieces.AreEmpty, Run.IsBareRun, Spot.Before, Spot.at_first, Spot.past_all, Spot.spot_of}
 use Rattle.fb_run.specs.{Sums.no_tally, Texts.Texts, Texts.no_bytes, Texts.silent, Texts.spoken, Whole.ReadsWhole}
 use Rattle.fb_run.specs.Puts.{Adds, AddsBy, AreCut, AreSo, IsUnused, PutsAll, Queues, all_unused, queues_of, unused}
 use Rattle.fb_run.specs.declared.{fault.RunFault.RunFault, options.Mode.Mode, output.Output.Output, tally.Tally.Tally}
 use Rattle.fb_run.specs.declared.options.Mode.TheVariants.{Lines, BadLines, Filter, Csv}
 use Rattle.fb_run.specs.declared.fault.RunFault.TheVariants as run
-use Rattle.fb_run.proofs.PutsLemmas.{front_whole}
-use Rattle.fb_run.proofs.{RunLemmas.caused_at, StreamLemmas.still, TakesLemmas.cut_caused, TakesLemmas.none_failed, TakesLemmas.outs_in}
-use Rattle.fb_run.proofs.TakesLemmas.{Gone, part_behind, put_behind, put_front, takes_all, written_all}
+use Rattle.fb_run.proofs.{PutsLemmas.front_whole, RunLemmas.caused_at, StreamLemmas.still, TakesLemmas.cut_caused, TakesLemmas.none_failed, TakesLemmas.outs_in, TakesLemmas.Gone}
+use Rattle.fb_run.proofs.TakesLemmas.{part_behind, put_behind, put_front, takes_all, written_all}
 
 -- of an output that is unused nothing was put
 pub unused_queues : {A K N R : Type 0} (k : sink.Ghosts K) (n : sink.Ghosts N) (r : sink.Ghosts R) (output : Output A) (writer : K) (notes : N) (rejects : R) → IsUnused output
@@ -66,7 +63,7 @@ module _ (job : Job) (bytes : List ℕ) (is_input : IsBareInput job bytes) (firs
   fronts (run.WriteFault written) (cut, fine, right, is) =
       let front = (put_front adds.told.out first.writer now.out cut adds.puts.0).0 in
       let behind = (put_behind adds.told.notes first.notes now.notes fine adds.puts.1).0 in
-      let none : adds.told.notes ≡ [] = elim (alone job.mode (IsLine job (spot_of (at_first job) (checked_in job bytes)) adds.verdict) (checked_in job bytes) adds.verdict adds.told adds.is_told.text.0) [
+      let none : adds.told.notes ≡ [] = elim (alone job.terms.mode (IsLine job (spot_of (at_first job) (checked_in job bytes)) adds.verdict) (checked_in job bytes) adds.verdict adds.told adds.is_told.text.0) [
         | inl nothing ↦ absurd (omega (arith, front.within, ap length nothing))
         | inr nothing ↦ nothing
       ] in
@@ -95,29 +92,23 @@ module _ (job : Job) {buffer : List ℕ} {begun last : Reader} (first : Outs) (t
   IsRun now end = IsBareRun job (beside begun first) (beside last (outs_in now)) tally end × EndsBeside (beside begun first) (beside last (outs_in now)) turns end
 
   -- a write failed
+  cut_why : (now : Queues) (fault : RunFault) → AreCut now fault → WritesPart job whole.bytes first (outs_in now) tally fault → WhyBare job whole.bytes first (outs_in now) tally fault
+  cut_why now (run.WriteFault written) cut written_part = written_part
+  cut_why now (run.NoteFault written) cut written_part = written_part
+  cut_why now (run.RejectFault written) cut written_part = written_part
+  cut_why now _ never written_part = absurd never
+
   cut_run : (now : Queues) (fault : RunFault) → Adds job (at_first job) (checked_in job whole.bytes) (all_unused first) now no_tally tally → AreCut now fault → IsRun now (Err fault)
-  cut_run now (run.WriteFault written) adds cut = (
-    (whole.bytes, whole.read, part job whole.bytes whole.is_input first now tally adds (run.WriteFault written) cut),
-    caused_at begun.failures last.failures (begun.calls + turns - last.calls) last.ended first (outs_in now) (run.WriteFault written) whole.unfailed (cut_caused adds.told first now adds.puts (run.WriteFault written) cut),
+  cut_run now fault adds cut = (
+    (whole.bytes, whole.read, cut_why now fault cut (part job whole.bytes whole.is_input first now tally adds fault cut)),
+    caused_at begun.failures last.failures (begun.calls + turns - last.calls) last.ended first (outs_in now) fault whole.unfailed (cut_caused adds.told first now adds.puts fault cut),
   )
-  cut_run now (run.NoteFault written) adds cut = (
-    (whole.bytes, whole.read, part job whole.bytes whole.is_input first now tally adds (run.NoteFault written) cut),
-    caused_at begun.failures last.failures (begun.calls + turns - last.calls) last.ended first (outs_in now) (run.NoteFault written) whole.unfailed (cut_caused adds.told first now adds.puts (run.NoteFault written) cut),
-  )
-  cut_run now (run.RejectFault written) adds cut = (
-    (whole.bytes, whole.read, part job whole.bytes whole.is_input first now tally adds (run.RejectFault written) cut),
-    caused_at begun.failures last.failures (begun.calls + turns - last.calls) last.ended first (outs_in now) (run.RejectFault written) whole.unfailed (cut_caused adds.told first now adds.puts (run.RejectFault written) cut),
-  )
-  cut_run now _ adds never = absurd never
 
   -- it was not told to its end
   stops : (now : Queues) (fault : RunFault) → AddsBy job (at_first job) (checked_in job whole.bytes) (all_unused first) now no_tally tally (Err fault) → IsRun now (Err fault)
   stops now run.OutOfMemory (same, counted) =
       rw same ((whole.bytes, whole.read, (whole.is_input.within, ((Keeps-refl first.writer.bytes, Keeps-refl first.notes.bytes, Keeps-refl first.rejects.bytes), counted))), (whole.unfailed, refl, refl, refl))
-  stops now (run.WriteFault written) (adds, cut) = cut_run now (run.WriteFault written) adds cut
-  stops now (run.NoteFault written) (adds, cut) = cut_run now (run.NoteFault written) adds cut
-  stops now (run.RejectFault written) (adds, cut) = cut_run now (run.RejectFault written) adds cut
-  stops now _ (adds, never) = absurd never
+  stops now fault (adds, cut) = cut_run now fault adds cut
 
   pub bare_stops : (now : Queues) (fault : RunFault) → AddsBy job (at_first job) buffer (all_unused first) now no_tally tally (Err fault) → IsRun now (Err fault)
   bare_stops now fault adds = stops now fault (subst (λ (l : List ℕ). AddsBy job (at_first job) l (all_unused first) now no_tally tally (Err fault)) whole.buffer_is adds)

@@ -1,7 +1,6 @@
 -- What comes behind what waits, and of which a front is written.
 use Rattle.std.proofs.Common.{◌≡◌, ℕ, ◌+◌, List, ◌++◌, Option, length, take, refl, sym, ap, subst, ◌∙◌, arith, append_assoc, length-append}
-use Rattle.std.proofs.{Math.Seq.take-append-add, KnownBytes.Appends-trans}
-use Rattle.std.proofs.lemmas.List.{take-append-le}
+use Rattle.std.proofs.{Math.Seq.take-append-add, KnownBytes.Appends-trans, lemmas.List.take-append-le}
 use Rattle.std.specs.Io.KnownBytes.{Appends}
 use Rattle.fb_run.specs.{AllTold.ComesBehind, AllTold.WritesFront, Texts.IsCounted}
 

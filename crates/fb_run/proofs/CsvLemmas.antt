@@ -1,18 +1,14 @@
 -- Rows of CSV and their fields.
-use Rattle.std.proofs.Common.{◌≡◌, ◌∙◌, ℕ, ◌+◌, ◌<◌, ◌≤◌, Bool, true, false, List, [], ◌∷◌, ◌++◌, Option, Some, None, ap, append-nil, append_assoc, arith, codes, get_or, length, length-take-le, map, refl, subst, sym, take, take_all}
+use Rattle.std.proofs.Common.{◌≡◌, ◌∙◌, ℕ, ◌+◌, ◌<◌, ◌≤◌, Bool, true, false, List, [], ◌∷◌, ◌++◌, Option, Some, ap, append-nil, append_assoc, arith, codes, get_or, length, length-take-le, map, refl, subst, sym, take, take_all}
 use Rattle.std.specs.Prelude.{if◌then◌else◌, nat_lt}
-use Rattle.std.specs.List.{AllZip, flat_map}
-use Rattle.std.specs.Float.{Float, Format, nan, inf, fin}
-use Rattle.std.proofs.lemmas.Bool.{lt-ltb}
-use Rattle.std.proofs.lemmas.List.{flat_map_more, length-map, map-append, take_more}
-use Rattle.std.proofs.lemmas.Slice.Zip.{AllZip-long}
+use Rattle.std.specs.{List.AllZip, List.flat_map, Float.Float, Float.Format, Float.nan, Float.inf, Float.fin}
+use Rattle.std.proofs.lemmas.{Bool.lt-ltb, List.flat_map_more, List.length-map, List.map-append, List.take_more, Slice.Zip.AllZip-long}
 use Rattle.json.specs.Json.{Json, number, string}
-use Rattle.fb_access.specs.Denotes.{Shown, shown}
-use Rattle.fb_access.specs.declared.answer.Answer.{Answer}
-use Rattle.fb_run.specs.{AnswerText.doubled, AnswerText.spelled, Json.IsReal, Wanted.Wanted}
-use Rattle.fb_run.specs.Csv.{AreJoined, IsRow, IsWritten, bare_text, behind_comma, edge, field_of, head_field, joined, name_field, notation_of, real_text, row_end, written}
-use Rattle.fb_run.specs.declared.value_text.Spelling.TheVariants.{Doubled}
-use Rattle.fb_run.specs.declared.{values.Notation.Notation, values.Notation.TheVariants.AsJson, values.Notation.TheVariants.Field, values.Notation.TheVariants.OnlyField}
+use Rattle.fb_access.specs.{Denotes.Shown, Denotes.shown, declared.answer.Answer.Answer}
+use Rattle.fb_run.specs.{AnswerText.doubled, AnswerText.spelled, Json.IsReal, Wanted.Wanted, Csv.AreJoined, Csv.IsRow, Csv.IsWritten, Csv.bare_text, Csv.behind_comma, Csv.edge}
+use Rattle.fb_run.specs.Csv.{field_of, head_field, joined, name_field, notation_of, real_text, row_end, written}
+use Rattle.fb_run.specs.declared.{value_text.Spelling.TheVariants.Doubled, values.Notation.Notation, values.Notation.TheVariants.AsJson, values.Notation.TheVariants.Field}
+use Rattle.fb_run.specs.declared.values.Notation.TheVariants.{OnlyField}
 use Rattle.fb_run.proofs.{FoundLemmas.both_more, JsonLemmas.number_text, JsonLemmas.word_texts}
 
 -- a comma, behind another field
@@ -47,17 +43,6 @@ row_of label values notation text is are = (text, subst (λ n. AreJoined n value
 -- a row's name by what is put
 pub name_put : (name : List ℕ) → name_field (Some name) ≡ codes "\"" ++ (flat_map (spelled Doubled) name ++ codes "\",")
 name_put name = append_assoc (codes "\"") (flat_map doubled name ++ codes "\"") (codes ",") ∙ ap (λ l. codes "\"" ++ l) (append_assoc (flat_map doubled name) (codes "\"") (codes ","))
-
--- whether a row has one field alone
-pub only_noted : (values : List Shown) → length values ≡ 1 → notation_of None values ≡ OnlyField
-only_noted [] one = absurd (omega (arith, one))
-only_noted (value ∷ []) one = refl
-only_noted (value ∷ more ∷ values) one = absurd (omega (arith, one))
-
-pub others_noted : (values : List Shown) → (length values ≡ 1 → ⊥) → notation_of None values ≡ Field
-others_noted [] other = refl
-others_noted (value ∷ []) other = absurd (other refl)
-others_noted (value ∷ more ∷ values) other = refl
 
 -- what stands for a float is the field of what has numbers and words as they are
 pub bare_real : (f : Format) (x : Float) (value : Json) (absent : List ℕ) (told : Shown) → ((digits : List ℕ) → field_of absent told (number digits) ≡ digits)

@@ -2,11 +2,10 @@
 use Rattle.std.proofs.Common.{◌≡◌, ℕ, ◌+◌, ◌∙◌, ◌++◌, List, [], ◌∷◌, Ok, Err, All, refl, sym, ap, subst, arith, ◌≤◌}
 use mathlib.Core.Logic.{inl}
 use Rattle.std.proofs.lemmas.List.Elements.{All-head, All-tail}
-use Rattle.fb_bytes.specs.declared.cut.Cut.{Cut}
-use Rattle.fb_bytes.specs.Messages.{IsMessage, Splits}
-use Rattle.fb_run.specs.{FilterLaws.PassesAgain, Job.Job, Line.IsLine, Line.TellsLine, Line.SaidBy, AllTold.AreTold, Spot.Before, Spot.at_first, Spot.past, Spot.spot_of, Sums.no_tally, Sums.tally_with}
-use Rattle.fb_run.specs.Texts.{Texts, spoken, to_notes, to_out}
-use Rattle.fb_run.specs.declared.{tally.Tally.Tally, options.Mode.TheVariants.Filter}
+use Rattle.fb_bytes.specs.{declared.cut.Cut.Cut, Messages.IsMessage, Messages.Splits}
+use Rattle.fb_run.specs.{FilterLaws.PassesAgain, Job.Job, Line.IsLine, Line.TellsLine, Line.SaidBy, AllTold.AreTold, Spot.Before, Spot.at_first, Spot.past, Spot.spot_of}
+use Rattle.fb_run.specs.{Sums.no_tally, Sums.tally_with, Texts.Texts, Texts.spoken, Texts.to_notes, Texts.to_out, declared.tally.Tally.Tally}
+use Rattle.fb_run.specs.declared.options.Mode.TheVariants.{Filter}
 use Rattle.fb_run.proofs.Splitting.{empty_partial, splits_one, splits_rest, splits_then}
 
 -- no more messages, and no more bad ones
@@ -15,7 +14,7 @@ record IsFewer (j k : Before) : Type 0 where
   bad : j.bad ≤ k.bad
 
 -- what was told of messages, as what is told of those that were passed on, wherever both begin, where no more stand before those
-again : (job : Job) (cut : Cut) (k j : Before) (messages : List (List ℕ)) (text : Texts) (tally : Tally) → IsFewer j k → job.mode ≡ Filter → All (IsMessage cut) messages → AreTold job k messages text tally
+again : (job : Job) (cut : Cut) (k j : Before) (messages : List (List ℕ)) (text : Texts) (tally : Tally) → IsFewer j k → job.terms.mode ≡ Filter → All (IsMessage cut) messages → AreTold job k messages text tally
     → (passed : List (List ℕ)) × (good : Tally) × Splits cut text.out passed [] × AreTold job j passed (to_out text.out) good × (good.yes ≡ tally.yes) × (good.no ≡ 0)
 again job cut k j [] text tally fewer filter each (e, none) = (
   [],

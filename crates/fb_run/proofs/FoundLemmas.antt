@@ -2,8 +2,7 @@
 use Rattle.std.proofs.Common.{◌≡◌, ℕ, ◌+◌, ◌<◌, List, [], ◌∷◌, ◌++◌, length, take, get_or, map, sym, ap, ◌∙◌}
 use Rattle.std.specs.List.{AllZip}
 use Rattle.std.proofs.lemmas.List.{map-append, take_more}
-use Rattle.fb_access.specs.Denotes.{Denotes, Shown, shown}
-use Rattle.fb_access.specs.declared.answer.Answer.{Answer}
+use Rattle.fb_access.specs.{Denotes.Denotes, Denotes.Shown, Denotes.shown, declared.answer.Answer.Answer}
 use Rattle.fb_schema.specs.Rows.{Rows}
 use Rattle.fb_rules.specs.declared.start.Start.{Start}
 use Rattle.fb_run.specs.{Job.AreAnswers, Wanted.Wanted}

@@ -1,8 +1,7 @@
 -- A message that stands whole at the front of some bytes.
 use Rattle.std.proofs.Common.{◌≡◌, ℕ, ◌+◌, ◌<◌, ◌≤◌, ◌⊎◌, inl, inr, List, length, take, arith, ap, sym, ◌∙◌, length-take-le}
 use Rattle.std.proofs.lemmas.Bool.{cases_lt}
-use Rattle.fb_bytes.specs.Messages.{declared, IsMessage, IsOversize, IsPartial}
-use Rattle.fb_bytes.specs.declared.{cut.Cut.Cut, cut.Endian.Endian}
+use Rattle.fb_bytes.specs.{Messages.declared, Messages.IsMessage, Messages.IsOversize, Messages.IsPartial, declared.cut.Cut.Cut, declared.cut.Endian.Endian}
 use Rattle.fb_bytes.proofs.MessageLemmas.{declared_front, declared_take}
 
 -- the number in front is that of the first four bytes
@@ -17,10 +16,6 @@ front_is_message cut n front bytes message first is within fits at =
     let long : length message ≡ n = ap length at ∙ length-take-le n bytes fits in
     let number : declared cut.order message ≡ declared cut.order bytes = ap (declared cut.order) at ∙ declared_take cut.order n bytes (omega arith) fits in
     record { prefixed = omega arith; whole = omega arith; within = omega arith }
-
--- fewer bytes than a prefix are a part of one
-pub front_is_part : (cut : Cut) (bytes : List ℕ) → length bytes < 4 → IsPartial cut bytes ⊎ IsOversize cut bytes
-front_is_part cut bytes few = inl (λ four. absurd (omega (arith, few, four)))
 
 -- a prefix that declares too much, or more than is there
 pub front_is_none : (cut : Cut) (n : ℕ) (front bytes : List ℕ) → front ≡ take 4 bytes → n ≡ declared cut.order front + 4

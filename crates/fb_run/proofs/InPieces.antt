@@ -1,9 +1,5 @@
 -- A text or an input that is passed on in pieces.
-use Rattle.std.proofs.Common.{◌≡◌, ℕ, ◌+◌, ◌≤◌, List, ◌++◌, length, take, drop, sym, ap, ◌∙◌, arith, append_assoc, length-append, length-take-le, take-append-drop}
-
--- the length with the front of a piece behind
-pub length-with : (whole piece : List ℕ) (n : ℕ) → n ≤ length piece → length (whole ++ take n piece) ≡ length whole + n
-length-with whole piece n fits = omega (arith, length-append whole (take n piece), length-take-le n piece fits)
+use Rattle.std.proofs.Common.{◌≡◌, ℕ, List, ◌++◌, take, drop, sym, ap, ◌∙◌, append_assoc, take-append-drop}
 
 -- n bytes of the rest are passed too
 pub front-more : (whole front rest rest' : List ℕ) (n : ℕ) → whole ≡ front ++ rest → rest' ≡ drop n rest → whole ≡ (front ++ take n rest) ++ rest'

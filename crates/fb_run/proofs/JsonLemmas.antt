@@ -1,11 +1,10 @@
 -- The text of JSON by its parts.
 use Rattle.std.proofs.Common.{◌≡◌, ℕ, suc, ◌+◌, ◌<◌, ◌≤◌, ◌/◌, ◌%◌, ◌^◌, Bool, true, false, cond, List, [], ◌∷◌, ◌++◌, Option}
 use Rattle.std.proofs.Common.{Some, None, codes, decimal, length, fold, get_or, drop, Fits, w8, refl, sym, ap, ◌∙◌, arith, rules, append_assoc, append-nil, inl, inr, min}
-use Rattle.std.specs.{Prelude.if◌then◌else◌, Prelude.nat_lt, Str.is_utf8, Str.IsUtf8, List.All}
+use Rattle.std.specs.{Prelude.if◌then◌else◌, Prelude.nat_lt, Str.is_utf8, Str.IsUtf8, List.All, List.flat_map}
 use Rattle.std.proofs.lemmas.{Bool.cases_lt, Bool.false_from_ne_true, Bool.Decides.nat_tests, List.drop_more, List.drop_all, List.flat_map_more, List.Elements.All-get_or}
 use Rattle.std.proofs.lemmas.{Str.IsUtf8-from_is_utf8, Str.is_utf8-from_IsUtf8, List.Sums.fold-append}
 use Rattle.hex.specs.Hex.{encode_lower, encode_with, lower_digits}
-use Rattle.std.specs.List.{flat_map}
 use Rattle.fb_run.specs.AnswerText.{spelled}
 use Rattle.fb_run.specs.declared.value_text.Spelling.TheVariants as spelling
 use Rattle.fb_run.proofs.AnswerLemmas.{digits_each}
@@ -148,9 +147,6 @@ pub labelled_digits : (key bytes : List ℕ) → ((k : ℕ) → Fits w8 (get_or 
     → json_text (labelled key (digits_json bytes)) ≡ codes "{" ++ (json_text (string key) ++ ((codes ":\"" ++ encode_lower bytes) ++ codes "\"}"))
 labelled_digits key bytes h = labelled_text key (digits_json bytes) ∙ simp (string_text, digits_stay bytes h, append_assoc)
 
-pub labelled_number : (key s : List ℕ) → json_text (labelled key (number s)) ≡ codes "{" ++ (json_text (string key) ++ ((codes ":" ++ s) ++ codes "}"))
-labelled_number key s = labelled_text key (number s) ∙ simp (string_text, number_text)
-
 -- the same by what is put
 pub digits_put : (bytes : List ℕ) → ((k : ℕ) → Fits w8 (get_or bytes k 0)) → escape (encode_lower bytes) ≡ flat_map (spelled spelling.Digits) bytes
 digits_put bytes small = digits_stay bytes small ∙ sym (digits_each bytes)
@@ -280,16 +276,3 @@ pub no_line : (file : Option (List ℕ)) (spot : Spot) (rows : Rows) (fault : Fa
 unfolding escape_byte
 no_line file spot rows fault place =
     ap (λ l. l ++ codes "\n") (begun file spot (no_members_of rows fault place)) ∙ simp (next_member, fixed_texts.2, number_text, append_assoc)
-
--- a line that is put by its six parts, one behind the other
-pub six_parts : (text t1 t2 t3 t4 t5 t6 a b c d e f whole : List ℕ) → whole ≡ a ++ (b ++ (c ++ (d ++ (e ++ f))))
-    → t1 ≡ text ++ a → t2 ≡ t1 ++ b → t3 ≡ t2 ++ c → t4 ≡ t3 ++ d → t5 ≡ t4 ++ e → t6 ≡ t5 ++ f → t6 ≡ text ++ whole
-six_parts text t1 t2 t3 t4 t5 t6 a b c d e f whole is p1 p2 p3 p4 p5 p6 = rw (p6, p5, p4, p3, p2, p1, is) (simp append_assoc)
-
--- and one that is put by four
-pub four_parts : (text t1 t2 t3 t4 a b c d whole : List ℕ) → whole ≡ a ++ (b ++ (c ++ d))
-    → t1 ≡ text ++ a → t2 ≡ t1 ++ b → t3 ≡ t2 ++ c → t4 ≡ t3 ++ d → t4 ≡ text ++ whole
-four_parts text t1 t2 t3 t4 a b c d whole is p1 p2 p3 p4 = rw (p4, p3, p2, p1, is) (simp append_assoc)
-
-pub three_parts : (text t1 t2 t3 a b c whole : List ℕ) → whole ≡ a ++ (b ++ c) → t1 ≡ text ++ a → t2 ≡ t1 ++ b → t3 ≡ t2 ++ c → t3 ≡ text ++ whole
-three_parts text t1 t2 t3 a b c whole is p1 p2 p3 = rw (p3, p2, p1, is) (simp append_assoc)

@@ -2,18 +2,15 @@
 use Rattle.std.proofs.Common.{◌≡◌, ℕ, ℤ, suc, pos, negsuc, ◌<◌, ◌≤◌, ◌^◌, Bool, true, false, List, [], ◌∷◌, Option, Some, None, ◌++◌, codes, decimal, get_or, length, inl, inr, arith, sym, ap, subst, ◌∙◌}
 use Rattle.std.specs.Prelude.{if◌then◌else◌, unsigned_abs}
 use Rattle.std.specs.{Float.Float, Float.Format, Float.binary32, Float.binary64, Float.nan, Float.inf, Float.fin, Fmt.signed_decimal, Fmt.sign_text, List.AllByRecursion}
-use Rattle.std.proofs.lemmas.{Bool.cases_eq, Bool.ne_eqb, Fmt.first_decimal}
 use Rattle.std.specs.Str.{is_utf8}
-use Rattle.json.specs.Json.{Json, string, Members, no_members}
-use Rattle.json.specs.Print.{IsNumber}
-use Rattle.json.specs.Tree.{depth, members_depth, HasNumbers, MembersHaveNumbers}
+use Rattle.std.proofs.lemmas.{Bool.cases_eq, Bool.ne_eqb, Fmt.first_decimal}
+use Rattle.json.specs.{Json.Json, Json.string, Json.Members, Json.no_members, Print.IsNumber, Tree.depth, Tree.members_depth, Tree.HasNumbers, Tree.MembersHaveNumbers}
 use Rattle.json.specs.Word.{after_number}
-use Rattle.json.proofs.{Printed.Decimals.IsNumber-decimal, Printed.Floats.IsNumber-plain, Printed.Trees.document-print}
+use Rattle.json.proofs.Printed.{Decimals.IsNumber-decimal, Floats.IsNumber-plain, Trees.document-print}
 use Rattle.fb_access.specs.Denotes.{Shown, nothing, no_element, other_member, truth, signed, unsigned, float, default_float, default_double, text, structure, vector, table, union}
-use Rattle.fb_run.specs.Json.{AreValues, IsReal, IsValue, IsValuesMember, digits_json, field_of, json_text, labelled, line_json, name_json, no_members_of, object_of, place_member, spot_members, text_json, value_json, yes_members}
-use Rattle.fb_run.specs.Spot.{IsShort}
-use Rattle.fb_run.specs.declared.spot.Spot.{Spot}
-use Rattle.fb_run.specs.JsonLaws.{HasFewBits, NoReadsBack, ReadsBack, YesReadsBack}
+use Rattle.fb_run.specs.Json.{AreValues, IsReal, IsValue, IsValuesMember, digits_json, field_of, json_text, labelled, line_json, name_json, no_members_of, object_of, place_member}
+use Rattle.fb_run.specs.{Json.spot_members, Json.text_json, Json.value_json, Json.yes_members, Spot.IsShort, declared.spot.Spot.Spot, JsonLaws.HasFewBits, JsonLaws.NoReadsBack}
+use Rattle.fb_run.specs.JsonLaws.{ReadsBack, YesReadsBack}
 
 -- a value whose numbers are such, and within one object
 record IsPlain (value : Json) : Type 0 where

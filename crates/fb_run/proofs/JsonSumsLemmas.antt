@@ -1,33 +1,34 @@
 -- The summary as JSON by its parts.
-use Rattle.std.proofs.Common.{◌≡◌, ℕ, ◌+◌, ◌<◌, ◌≤◌, ◌==◌, Bool, true, false, List, [], ◌∷◌, ◌++◌, codes, decimal, length, refl, sym, ap, ◌∙◌, arith, append_assoc}
+use Rattle.std.proofs.Common.{◌≡◌, ℕ, ◌+◌, ◌%◌, ◌^◌, ◌<◌, ◌≤◌, ◌==◌, Bool, true, false, List, [], ◌∷◌, ◌++◌, codes, decimal, length, refl, sym, ap, ◌∙◌, arith, append_assoc}
 use Rattle.std.specs.Prelude.{if◌then◌else◌}
-use Rattle.std.specs.Fmt.{digits}
-use borrow.Author.Count.{below_more, below_none}
-use Rattle.json.specs.Json.{object, Members, no_members, member}
-use Rattle.json.specs.Print.{escape_byte, quoted}
+use Rattle.std.proofs.lemmas.Fmt.{decimal_by_steps}
+use Rattle.json.specs.{Json.object, Json.Members, Json.no_members, Json.member, Print.escape, Print.escape_byte, Print.quoted}
+use Rattle.json.proofs.Printed.Strings.{escape_byte_plain}
 use Rattle.fb_rules.specs.Reasons.{reason_count}
-use Rattle.fb_run.specs.{Json.count_json, Json.following, Json.json_text, JsonSums.reasons_members, JsonSums.summary_in}
-use Rattle.fb_run.specs.Sums.{count_of, counts_part, in_form, reasons_from, summary_part, verdicts_part}
-use Rattle.fb_run.specs.declared.{options.LineForm.LineForm, tally.Tally.Tally}
+use Rattle.fb_run.specs.{Json.count_json, Json.following, Json.json_text, JsonSums.reasons_members, JsonSums.summary_in, Sums.count_of, Sums.counts_part, Sums.in_form}
+use Rattle.fb_run.specs.{Sums.reasons_from, Sums.summary_part, Sums.verdicts_part, declared.options.LineForm.LineForm, declared.tally.Tally.Tally}
 use Rattle.fb_run.specs.declared.options.LineForm.TheVariants as form
-use Rattle.fb_run.proofs.JsonLemmas.{first_member, next_member, no_more, number_text}
+use Rattle.fb_run.proofs.JsonLemmas.{escape_more, first_member, next_member, no_more, number_text}
 
--- the key of each reason's count
-abbrev IsKey : ℕ → Type 0
-IsKey n = quoted (codes "V" ++ decimal n) ≡ codes "\"V" ++ (decimal n ++ codes "\"")
+-- digits stand in a string as they are
+digit_stays : (d : ℕ) → d < 10 → escape_byte (48 + d) ≡ (48 + d) ∷ []
+digit_stays d few = escape_byte_plain (48 + d) (λ e. omega arith) (λ e. omega arith) (omega arith)
 
-key_text : (n : ℕ) → n < reason_count + 1 → IsKey n
-unfolding digits escape_byte
-key_text =
-    let m = below_more IsKey in
-    m 16 (m 15 (m 14 (m 13 (m 12 (m 11 (m 10 (m 9 (m 8 (m 7 (m 6 (m 5 (m 4 (m 3 (m 2 (m 1 (m 0 (below_none IsKey)
-    refl) refl) refl) refl) refl) refl) refl) refl) refl) refl) refl) refl) refl) refl) refl) refl) refl
+decimal_stays : (n : ℕ) → n < 2 ^ 64 → escape (decimal n) ≡ decimal n
+decimal_stays =
+    decimal_by_steps (λ n ds. escape ds ≡ ds) (λ n few. ap (λ l. l ++ []) (digit_stays n few))
+    (λ n ds large stay. escape_more ds (48 + n % 10) ∙ (λ i. stay i ++ digit_stays (n % 10) (omega arith) i))
+
+-- the key of a reason's count
+key_text : (n : ℕ) → n < 2 ^ 64 → quoted (codes "V" ++ decimal n) ≡ codes "\"V" ++ (decimal n ++ codes "\"")
+unfolding escape_byte
+key_text n few = ap (λ l. codes "\"V" ++ (l ++ codes "\"")) (decimal_stays n few)
 
 -- the count of a reason, before what is written of the other members
 abbrev given_part : ℕ → ℕ → List ℕ
 given_part k count = in_form form.Json (codes " V") (codes ",\"V") ++ decimal k ++ in_form form.Json (codes "=") (codes "\":") ++ decimal count
 
-given_text : (k count : ℕ) (more : Members) → k < reason_count + 1
+given_text : (k count : ℕ) (more : Members) → k < 2 ^ 64
     → following (member (codes "V" ++ decimal k) (count_json count) more) ++ codes "\n" ≡ given_part k count ++ (following more ++ codes "\n")
 given_text k count more few =
     ap (λ l. l ++ codes "\n") (
@@ -36,12 +37,12 @@ given_text k count more few =
     )
     ∙ simp (number_text, append_assoc)
 
-reason_text : (none : Bool) (k count : ℕ) (more : Members) (text : List ℕ) → k < reason_count + 1 → following more ++ codes "\n" ≡ text
+reason_text : (none : Bool) (k count : ℕ) (more : Members) (text : List ℕ) → k < 2 ^ 64 → following more ++ codes "\n" ≡ text
     → following (if none then more else member (codes "V" ++ decimal k) (count_json count) more) ++ codes "\n" ≡ (if none then [] else given_part k count) ++ text
 reason_text true k count more text few is = is
 reason_text false k count more text few is = given_text k count more few ∙ ap (λ l. given_part k count ++ l) is
 
-reasons_text : (k : ℕ) (counts : List ℕ) (rest : Members) → k + length counts ≤ reason_count + 1
+reasons_text : (k : ℕ) (counts : List ℕ) (rest : Members) → k + length counts ≤ 2 ^ 64
     → following (reasons_members k counts rest) ++ codes "\n" ≡ reasons_from form.Json k counts (following rest ++ codes "\n")
 reasons_text k [] rest few = refl
 reasons_text k (count ∷ counts) rest few =

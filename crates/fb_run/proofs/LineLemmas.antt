@@ -1,8 +1,7 @@
 -- A line that stands at the end of its room.
 use Rattle.std.proofs.Common.{◌≡◌, ℕ, ◌+◌, ◌-◌, ◌<◌, ◌≤◌, ◌^◌, List, [], ◌++◌, length, drop, arith, ap, length-append}
 use Rattle.std.specs.Prelude.{decimal, slice_index_or, slice_set}
-use Rattle.std.proofs.Math.ListN.{drop_of_length-le}
-use Rattle.std.proofs.lemmas.{List.drop-set, List.drop_more, Fmt.decimal_digit, Fmt.length-decimal-le}
+use Rattle.std.proofs.{Math.ListN.drop_of_length-le, lemmas.List.drop-set, lemmas.List.drop_more, lemmas.Fmt.decimal_digit, lemmas.Fmt.length-decimal-le}
 
 -- nothing stands behind the end
 pub drop_whole : (room : List ℕ) (n : ℕ) → length room ≡ n → drop n room ≡ []

@@ -6,7 +6,7 @@ use Rattle.fb_rules.specs.declared.{checks.Checks.Checks, fault.Fault.Fault, fau
 use Rattle.fb_strict.specs.{AsAsked.ReportsBy, AsAsked.StopsBy, AsAsked.StopsAlongBy, Planned.Planned}
 use Rattle.fb_verify.specs.Sealed.{sealed_by}
 use Rattle.fb_run.specs.{Wanted.Wanted}
-use Rattle.fb_run.specs.Job.{AreAnswers, Beside, HasRoom, IsChecked, IsVerdict, IsVerified, Job, Verdict, asked_of, asks_little, brief_verdict, is_brief, job_of, place_beside, place_told}
+use Rattle.fb_run.specs.Job.{AreAnswers, Beside, HasRoom, IsChecked, IsVerdict, IsVerified, Job, Verdict, asked_of, asks_little, brief_verdict, is_brief, job_of, place_beside, place_told, start_in}
 use Rattle.fb_run.specs.declared.{checker.Checked.Checked, options.LineForm.LineForm, options.LineForm.TheVariants.Plain, options.LineForm.TheVariants.Json, options.Options.Options}
 use Rattle.fb_run.specs.declared.{options.Mode.Mode, options.Mode.TheVariants.Lines, options.Mode.TheVariants.BadLines, options.Mode.TheVariants.Filter, options.Mode.TheVariants.Csv}
 use Rattle.fb_run.specs.declared.{options.Places.Places, options.Places.TheVariants.Numbers, options.Places.TheVariants.Words}
@@ -15,7 +15,7 @@ use Rattle.fb_run.specs.declared.{options.Places.Places, options.Places.TheVaria
 pub same_room : {job : Job} {room now : Beside} → HasRoom job room → now.levels ≡ room.levels → now.pass ≡ room.pass → now.links ≡ room.links → now.label ≡ room.label → HasRoom job now
 same_room {job = job} has levels pass links label = record {
   deep = rw levels has.deep;
-  strict = subst (λ n. IfSome job.plan (λ _. job.limits.depth ≤ n)) (sym pass) has.strict;
+  strict = subst (λ n. IfSome job.plan (λ _. job.terms.limits.depth ≤ n)) (sym pass) has.strict;
   long = λ words. rw links (has.long words);
   label_is = label ∙ has.label_is;
 }
@@ -63,19 +63,19 @@ asks_none (path ∷ paths) names label form mode little = cc
 pub told_briefly : (job : Job) (bytes : List ℕ) (answer : Result Report Fault) → IsTrue (is_brief job) → IfOk answer (ReportsBy job.plan (asked_of job bytes) bytes)
     → IfErr answer (StopsBy job.plan (asked_of job bytes) bytes) → IsVerdict job bytes (brief_verdict answer)
 told_briefly job bytes (Ok report) brief reports stops =
-    let none = asks_none job.paths job.names job.label job.form job.mode brief in
-    (reports, subst (λ (paths : List Wanted). AreAnswers bytes job.rows job.start job.root paths []) (sym none.0) tt)
-told_briefly job bytes (Err fault) brief reports stops = (stops, (asks_none job.paths job.names job.label job.form job.mode brief).1)
+    let none = asks_none job.paths job.terms.names job.label job.terms.form job.terms.mode brief in
+    (reports, subst (λ (paths : List Wanted). AreAnswers bytes job.rows (start_in job) job.root paths []) (sym none.0) tt)
+told_briefly job bytes (Err fault) brief reports stops = (stops, (asks_none job.paths job.terms.names job.label job.terms.form job.terms.mode brief).1)
 
 module _ {job : Job} {rows : Rows} (options : Options) (bytes : List ℕ) (fault : Fault) (links : List Link) (is : job_of rows options ≡ job) (words : options.terms.names ≡ Words)
     (stops : StopsBy job.plan (asked_of job bytes) bytes fault) (along : StopsAlongBy job.plan (asked_of job bytes) bytes fault links) where
-  in_words : (text : List ℕ) → text ≡ place_told job.form job.rows fault links → IsVerdict job bytes (Err (record { fault = fault; place = Some text }))
+  in_words : (text : List ℕ) → text ≡ place_told job.terms.form job.rows fault links → IsVerdict job bytes (Err (record { fault = fault; place = Some text }))
   in_words text told = (stops, (rw (sym is) words, links, along, told))
 
   -- where words are asked for, its fault has them
   pub told_no : (text : List ℕ) → text ≡ place_told options.terms.form rows fault links → IsVerified job bytes text (Err fault)
-  told_no text told = subst (λ (n : Places). IsVerdict job bytes (Err (record { fault = fault; place = place_beside n text }))) (sym words ∙ ap (λ (j : Job). j.names) is) (in_words text (rw (sym is) told))
+  told_no text told = subst (λ (n : Places). IsVerdict job bytes (Err (record { fault = fault; place = place_beside n text }))) (sym words ∙ ap (λ (j : Job). j.terms.names) is) (in_words text (rw (sym is) told))
 
   -- and there is a verdict also where there is no memory for them
-  pub told_none : ((verdict : Verdict) × IsVerdict job bytes verdict) × (job.names ≡ Words)
-  told_none = ((Err (record { fault = fault; place = Some (place_told job.form job.rows fault links) }), in_words _ refl), rw (sym is) words)
+  pub told_none : ((verdict : Verdict) × IsVerdict job bytes verdict) × (job.terms.names ≡ Words)
+  told_none = ((Err (record { fault = fault; place = Some (place_told job.terms.form job.rows fault links) }), in_words _ refl), rw (sym is) words)

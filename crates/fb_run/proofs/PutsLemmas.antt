@@ -3,9 +3,8 @@ use Rattle.std.proofs.Common.{◌≡◌, ℕ, ◌+◌, ◌<◌, ◌≤◌, Bool,
 use Rattle.std.proofs.{KnownBytes.Appends-nil, lemmas.List.flat_map_more, lemmas.List.take_all, lemmas.List.take_more}
 use Rattle.std.specs.List.{flat_map}
 use Rattle.fb_bytes.specs.Ends.{one_more}
-use Rattle.fb_run.specs.{AllTold.WritesFront, Ends.Writer, Texts.Texts, Texts.silent, Texts.to_rejects}
-use Rattle.fb_run.specs.Puts.{AreCut, Puts, PutsAll, PutsAs, PutsFront, PutsTold, Queue, Queues}
-use Rattle.fb_run.specs.declared.fault.RunFault.{RunFault}
+use Rattle.fb_run.specs.{AllTold.WritesFront, Ends.Writer, Texts.Texts, Texts.silent, Texts.to_rejects, Puts.AreCut, Puts.Puts, Puts.PutsAll, Puts.PutsAs, Puts.PutsFront}
+use Rattle.fb_run.specs.{Puts.PutsTold, Puts.Queue, Puts.Queues, declared.fault.RunFault.RunFault}
 use Rattle.fb_run.specs.declared.fault.RunFault.TheVariants as run
 use Rattle.fb_run.proofs.{AnswerLemmas.front_spelled, BehindLemmas.behind_more, BehindLemmas.front_behind, BehindLemmas.front_more, InPieces.front-more}
 
@@ -77,11 +76,7 @@ spelled_more f head bytes front rest n more rest' a b c at is whole first second
 )
 
 module _ {A : Type 0} (f : A → List ℕ) (xs : List A) (head : List ℕ) (a b : Queue) where
-  -- a head alone
-  pub puts_head : Puts head a b → Puts (head ++ flat_map f (take 0 xs)) a b
-  puts_head put = subst (λ l. Puts l a b) (sym (append-nil head)) put
-
-  -- the next of many behind it
+  -- the next of many behind a head
   pub puts_each : (i : ℕ) (d : A) {x : List ℕ} (c : Queue) → i < length xs → x ≡ f (get_or xs i d) → Puts (head ++ flat_map f (take i xs)) a b → Puts x b c
       → Puts (head ++ flat_map f (take (i + 1) xs)) a c
   puts_each i d {x} c inside is first second =

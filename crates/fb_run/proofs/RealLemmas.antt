@@ -4,8 +4,7 @@ use Rattle.std.specs.Prelude.{to_bits, from_bits}
 use Rattle.std.specs.Float.{Float, Format, binary32, binary64, nan, inf, fin, float_is_finite}
 use lib.Ieee.{is_nan, top}
 use lib.Ieee.Bits.{to_bits-of_bits}
-use Rattle.std.specs.Float.Parse.{parse_float, read_float}
-use Rattle.std.specs.Float.Numeral.{scan_numeral}
+use Rattle.std.specs.Float.{Parse.parse_float, Parse.read_float, Numeral.scan_numeral}
 use Rattle.json.specs.Json.{Json, number, string}
 use Rattle.ryu.specs.Plain.{IsLaidOutNumber, word_of}
 use Rattle.byteorder.specs.Endian.{little_number}

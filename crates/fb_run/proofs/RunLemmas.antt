@@ -1,11 +1,9 @@
 -- A run over a stream: what was read and written, and then one piece more.
 use Rattle.std.proofs.Common.{◌≡◌, ℕ, ◌+◌, ◌-◌, ◌*◌, ◌<◌, ◌≤◌, Bool, true, false, List, [], ◌++◌, length, take, drop, refl, sym, ap, subst, ◌∙◌, arith, append-nil, length-take-le, take-append-drop, Result, Ok, Err, IsErrAnd}
 use Rattle.std.specs.Io.KnownBytes.{Consumes, Keeps}
-use Rattle.std.proofs.KnownBytes.{Consumes-kept, Consumes-nil, Consumes-trans, Keeps-refl}
-use Rattle.std.proofs.lemmas.List.{drop_all, length-drop}
+use Rattle.std.proofs.{KnownBytes.Consumes-kept, KnownBytes.Consumes-nil, KnownBytes.Consumes-trans, KnownBytes.Keeps-refl, lemmas.List.drop_all, lemmas.List.length-drop}
 use mathlib.Core.Logic.{◌⊎◌, inl, inr}
-use Rattle.fb_bytes.specs.Messages.{IsMessage, IsPartial, Splits}
-use Rattle.fb_bytes.specs.declared.cut.Cut.{Cut}
+use Rattle.fb_bytes.specs.{Messages.IsMessage, Messages.IsPartial, Messages.Splits, declared.cut.Cut.Cut}
 use Rattle.fb_bytes.specs.declared.stream_fault.StreamFault.TheVariants as stream
 use Rattle.fb_run.specs.{AllTold.AreTold, Ends.Ends, Ends.Outs, Ends.Reader, Ends.Takes, Ends.beside, Job.Job, Job.checked_in, Job.cut_of, Leave.IsUnended, Prompt.IsPrompt, Prompt.IsPromptFrom}
 use Rattle.fb_run.specs.{Prompt.IsStreamPrompt, Puts.AreOpen, Puts.Queues, Puts.all_unused, Puts.unused, Run.IsRunBeside, Run.IsRunFrom, Run.Runs, Run.answer_by, Spot.IsDue, Spot.IsFull}
@@ -14,11 +12,9 @@ use Rattle.fb_run.specs.Faults.{End, EndsBeside, IsCaused, IsCausedOut, IsUnfail
 use Rattle.fb_run.specs.Pieces.{AreEmpty, AreSettled, Carry, Gathers, Halts, IsReady, PassesFront, Stands, WritesBy}
 use Rattle.fb_run.specs.declared.{fault.RunFault.RunFault, run.Ran.Ran, skip.Skip.Skip, tally.Tally.Tally}
 use Rattle.fb_run.specs.declared.fault.RunFault.TheVariants as run
-use Rattle.fb_run.proofs.PutsLemmas.{front_whole}
-use Rattle.fb_run.proofs.Splitting.{empty_partial, splits_rest}
-use Rattle.fb_run.proofs.StreamLemmas.{due_not_full, front_gathers, stands_first}
-use Rattle.fb_run.proofs.SkipLemmas.{LeavesOut, checked_more, skips_more}
-use Rattle.fb_run.proofs.TakesLemmas.{cut_caused, none_failed, outs_in, part_behind, put_behind, put_front, takes_all, takes_none, written_all}
+use Rattle.fb_run.proofs.{PutsLemmas.front_whole, Splitting.empty_partial, Splitting.splits_rest, StreamLemmas.due_not_full, StreamLemmas.front_gathers, StreamLemmas.stands_first}
+use Rattle.fb_run.proofs.{SkipLemmas.LeavesOut, SkipLemmas.checked_more, SkipLemmas.skips_more, TakesLemmas.cut_caused, TakesLemmas.none_failed, TakesLemmas.outs_in}
+use Rattle.fb_run.proofs.TakesLemmas.{part_behind, put_behind, put_front, takes_all, takes_none, written_all}
 use Rattle.fb_run.proofs.TextsLemmas.{same_texts}
 
 -- what was read from the reader so far, of which all that is told is written, and the next message is told
@@ -43,7 +39,7 @@ sofar_nothing job reader outs here skip turns skips due ready unused counted non
   bytes = [];
   read = Consumes-nil reader.left;
   skips = skips;
-  stands = subst (λ (l : List ℕ). Stands job outs l here) (sym (drop_all job.begin [] (omega arith))) (stands_first job outs here unused counted none);
+  stands = subst (λ (l : List ℕ). Stands job outs l here) (sym (drop_all job.terms.skip [] (omega arith))) (stands_first job outs here unused counted none);
   due = rw counted (record { messages = due.messages; bad = due.bad });
   ready = ready;
   unfailed = rw unused (refl, refl, refl);
@@ -55,7 +51,7 @@ sofar_nothing job reader outs here skip turns skips due ready unused counted non
 }
 
 -- where a run may read by a checker's job, it may by the job that this is
-pub prompt_by : {job same : Job} {bare : Bool} (before now : Ends) → same ≡ job → same.bare ≡ bare → IsPromptFrom bare same before now → IsPrompt job before now
+pub prompt_by : {job same : Job} {bare : Bool} (before now : Ends) → same ≡ job → same.terms.bare ≡ bare → IsPromptFrom bare same before now → IsPrompt job before now
 prompt_by {same = same} before now is bare_is prompt =
     subst (λ (j : Job). IsPrompt j before now) is (subst (λ b. IsPromptFrom b same before now) (sym bare_is) prompt)
 
@@ -71,7 +67,7 @@ module _ {job : Job} {before : Outs} (bytes : List ℕ) {tally : Tally} {queues 
 -- a write failed behind a front of what is told of these bytes, or the run came to rest with all of that written
 halts_fails : (job : Job) (first reader : Reader) (before : Outs) (bytes : List ℕ) (tally : Tally) (queues : Queues) (fault : RunFault) → Consumes first.left reader.left bytes
     → Halts job before (checked_in job bytes) tally queues fault → AreSettled queues fault → FailsStream job (beside first before) (beside reader (outs_in queues)) tally fault
-halts_fails job first reader before bytes tally queues (run.WriteFault written) read (some, (cut, fine, right, is)) settled =
+halts_fails job first reader before bytes tally queues (run.WriteFault written) read (some, inl (cut, fine, right, is)) settled =
     let front = (put_front some.text.out before.writer queues.out cut some.puts.0).0 in
     let notes = (put_behind some.text.notes before.notes queues.notes fine some.puts.1).0 in
     let rejects = part_behind some.text.rejects before.rejects queues.rejects right some.puts.2 in
@@ -86,7 +82,7 @@ halts_fails job first reader before bytes tally queues (run.WriteFault written) 
       takes = record { wrote = front.wrote; noted = notes.wrote; rejected = rejects.wrote };
       rests = rests_in bytes some gone (run.WriteFault written) (λ few. omega (arith, is, long, front.written_is (omega (arith, few, long))), (more, told_as bytes some (followed gone more) whole));
     }
-halts_fails job first reader before bytes tally queues (run.NoteFault written) read (some, (cut, fine, right, none, is)) settled =
+halts_fails job first reader before bytes tally queues (run.NoteFault written) read (some, inl (cut, fine, right, none, is)) settled =
     let front = (put_front some.text.notes before.notes queues.notes cut some.puts.1).0 in
     let rejects = part_behind some.text.rejects before.rejects queues.rejects right some.puts.2 in
     let gone : Texts = record { out = some.text.out; notes = take front.taken some.text.notes; rejects = rejects.gone } in
@@ -100,7 +96,7 @@ halts_fails job first reader before bytes tally queues (run.NoteFault written) r
       takes = record { wrote = written_all some.text.out before.writer queues.out fine none some.puts.0; noted = front.wrote; rejected = rejects.wrote };
       rests = rests_in bytes some gone (run.NoteFault written) (λ few. omega (arith, is, long, front.written_is (omega (arith, few, long))), (more, refl, told_as bytes some (followed gone more) whole));
     }
-halts_fails job first reader before bytes tally queues (run.RejectFault written) read (some, (cut, fine, right, none, unnoted, is)) settled =
+halts_fails job first reader before bytes tally queues (run.RejectFault written) read (some, inl (cut, fine, right, none, unnoted, is)) settled =
     let front = (put_front some.text.rejects before.rejects queues.rejects cut (front_whole some.text.rejects (unused before.rejects) queues.rejects some.puts.2 (fine, right))).0 in
     let gone : Texts = record { out = some.text.out; notes = some.text.notes; rejects = take front.taken some.text.rejects } in
     let more = drop front.taken some.text.rejects in
@@ -118,31 +114,32 @@ halts_fails job first reader before bytes tally queues (run.RejectFault written)
       };
       rests = rests_in bytes some gone (run.RejectFault written) (λ few. omega (arith, is, long, front.written_is (omega (arith, few, long))), (more, told_as bytes some (followed gone (to_rejects more)) whole));
     }
-halts_fails job first reader before bytes tally queues run.OutOfMemory read (some, fine) empty = record {
+halts_fails job first reader before bytes tally queues run.OutOfMemory read (some, inr (fine, starved)) (inr empty) = record {
   bytes = bytes;
   text = some.text;
   read = read;
   takes = takes_all some.text before queues some.puts fine empty;
   rests = rests_in bytes some some.text run.OutOfMemory (told_as bytes some some.text refl);
 }
-halts_fails job first reader before bytes tally queues (run.Stream (stream.Oversize number)) read (some, (due, fine, none, over, is)) empty = record {
+halts_fails job first reader before bytes tally queues (run.Stream (stream.Oversize number)) read (some, inr (fine, (due, none, over, is))) (inr empty) = record {
   bytes = bytes;
   text = some.text;
   read = read;
   takes = takes_all some.text before queues some.puts fine empty;
   rests = (some.done, some.rest, rw (none, append-nil some.done) at some.splits, (due, over, is, some.told));
 }
-halts_fails job first reader before bytes tally queues _ read (some, never) settled = absurd never
+halts_fails job first reader before bytes tally queues run.OutOfMemory read halts (inl never) = absurd never
+halts_fails job first reader before bytes tally queues (run.Stream (stream.Oversize number)) read halts (inl never) = absurd never
+halts_fails job first reader before bytes tally queues _ read (some, inl never) settled = absurd never
+halts_fails job first reader before bytes tally queues _ read (some, inr (fine, never)) settled = absurd never
 
 halts_caused : (job : Job) (before : Outs) (bytes : List ℕ) (tally : Tally) (queues : Queues) (fault : RunFault) → Halts job before bytes tally queues fault → IsCausedOut before (outs_in queues) fault
-halts_caused job before bytes tally queues (run.WriteFault written) (some, cut) reads left ended = cut_caused some.text before queues some.puts (run.WriteFault written) cut reads left ended
-halts_caused job before bytes tally queues (run.NoteFault written) (some, cut) reads left ended = cut_caused some.text before queues some.puts (run.NoteFault written) cut reads left ended
-halts_caused job before bytes tally queues (run.RejectFault written) (some, cut) reads left ended = cut_caused some.text before queues some.puts (run.RejectFault written) cut reads left ended
-halts_caused job before bytes tally queues run.OutOfMemory (some, fine) reads left ended =
-    let none = none_failed some.text before queues some.puts fine in (refl, none.0, none.1, none.2)
-halts_caused job before bytes tally queues (run.Stream (stream.Oversize number)) (some, (due, fine, none, over, is)) reads left ended =
+halts_caused job before bytes tally queues fault (some, inl cut) reads left ended = cut_caused some.text before queues some.puts fault cut reads left ended
+halts_caused job before bytes tally queues run.OutOfMemory (some, inr (fine, why)) reads left ended =
     let kept = none_failed some.text before queues some.puts fine in (refl, kept.0, kept.1, kept.2)
-halts_caused job before bytes tally queues _ (some, never) reads left ended = absurd never
+halts_caused job before bytes tally queues (run.Stream (stream.Oversize number)) (some, inr (fine, why)) reads left ended =
+    let kept = none_failed some.text before queues some.puts fine in (refl, kept.0, kept.1, kept.2)
+halts_caused job before bytes tally queues _ (some, inr (fine, never)) reads left ended = absurd never
 
 -- the cause of a fault of the writer and the notes is that of the run, where no read failed
 pub caused_at : (reads reads' left : ℕ) (ended : Bool) (a b : Outs) (fault : RunFault) → reads' ≡ reads → IsCausedOut a b fault → IsCaused (failed reads a) (failed reads' b) left ended fault
@@ -315,17 +312,13 @@ module _ {job : Job} {first now : Reader} {before : Outs} {here : Carry} {skip :
           turns_are = omega (arith, some, called, sofar.calls);
         }
 
--- over a stream that is all a run is asked for
-pub prompt_from : {job : Job} {before now : Ends} → job.bare ≡ false → IsStreamPrompt job before now → IsPrompt job before now
-prompt_from {job} {before} {now} is prompt = subst (λ b. IsPromptFrom b job before now) (sym is) prompt
-
 -- without memory nothing is read or written, whatever the input is
 none_from : (from : Bool) (job : Job) (ends : Ends) → IsRunFrom from job ends ends no_tally (Err run.OutOfMemory)
 none_from true job ends =
-    ([], Consumes-nil ends.reader.left, (rw (drop_all {X = ℕ} job.begin [] (omega arith)) (omega arith), ((Keeps-refl ends.outs.writer.bytes, Keeps-refl ends.outs.notes.bytes, Keeps-refl ends.outs.rejects.bytes), refl)))
+    ([], Consumes-nil ends.reader.left, (rw (drop_all {X = ℕ} job.terms.skip [] (omega arith)) (omega arith), ((Keeps-refl ends.outs.writer.bytes, Keeps-refl ends.outs.notes.bytes, Keeps-refl ends.outs.rejects.bytes), refl)))
 none_from false job ends =
     let nothing : Splits (cut_of job) (checked_in job []) [] [] =
-    subst (λ (l : List ℕ). Splits (cut_of job) l [] []) (sym (drop_all job.begin [] (omega arith))) (splits_rest (cut_of job) [] (inl (empty_partial (cut_of job)))) in
+    subst (λ (l : List ℕ). Splits (cut_of job) l [] []) (sym (drop_all job.terms.skip [] (omega arith))) (splits_rest (cut_of job) [] (inl (empty_partial (cut_of job)))) in
     record {
       bytes = [];
       text = silent;
@@ -335,7 +328,7 @@ none_from false job ends =
     }
 
 pub runs_none : (job : Job) (ends : Ends) (ran : Ran) → ran ≡ record { tally = no_tally; end = Err run.OutOfMemory } → IsRunBeside job ends ends ran.tally ran.end
-runs_none job ends ran is = subst (λ (t : Ran). IsRunBeside job ends ends t.tally t.end) (sym is) (none_from job.bare job ends)
+runs_none job ends ran is = subst (λ (t : Ran). IsRunBeside job ends ends t.tally t.end) (sym is) (none_from job.terms.bare job ends)
 
 pub ends_none : (ends : Ends) (turns : ℕ) (ran : Ran) → ran ≡ record { tally = no_tally; end = Err run.OutOfMemory } → EndsBeside ends ends turns ran.end
 ends_none ends turns ran is = subst (λ (t : Ran). EndsBeside ends ends turns t.end) (sym is) (refl, refl, refl, refl)

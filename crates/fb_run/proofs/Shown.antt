@@ -3,8 +3,7 @@ use Rattle.std.proofs.Common.{refl}
 use Rattle.std.specs.Fmt.{digits}
 use Rattle.hex.specs.Hex.{encode_with}
 use Rattle.fb_schema.specs.Rows.{Rows}
-use Rattle.fb_run.specs.{JobTests.Buffers, LineTests.Lines, LineTests.Names, LineTests.Texts, LineTests.Values}
-use Rattle.fb_run.specs.declared.options.Options.{Options}
+use Rattle.fb_run.specs.{JobTests.Buffers, LineTests.Lines, LineTests.Names, LineTests.Texts, LineTests.Values, declared.options.Options.Options}
 
 pub buffers_shown : (rows : Rows) (options : Options) → Buffers rows options
 buffers_shown rows options = record { part = λ stream prefix. rw (stream, prefix) (refl, refl, refl); apart = λ order stream prefix. rw (stream, prefix) (refl, refl, refl) }

@@ -3,11 +3,9 @@ use Rattle.std.proofs.Common.{ℕ, ◌<◌, ◌≤◌, true, false, [], ◌∷�
 use Rattle.std.specs.{Char.digit_value, Char.encode_utf8, Fmt.digits, Str.chars, Str.is_utf8}
 use Rattle.std.proofs.lemmas.{Bool.cases_eq, Str.digit_value_digit}
 use lib.Ieee.{of_bits, round}
-use Rattle.std.specs.Float.Parse.{read_float}
-use Rattle.std.specs.Float.Numeral.{Parts, scan_numeral}
+use Rattle.std.specs.Float.{Parse.read_float, Numeral.Parts, Numeral.scan_numeral}
 use Rattle.hex.specs.Hex.{encode_with}
-use Rattle.json.specs.Json.{number, string}
-use Rattle.json.specs.Print.{escape_byte, print_from}
+use Rattle.json.specs.{Json.number, Json.string, Print.escape_byte, Print.print_from}
 use Rattle.ryu.specs.Plain.{IsLaidOutText}
 use Rattle.fb_bytes.specs.Word.{word}
 use Rattle.fb_schema.specs.{Kinds.base_types, Kinds.kind_of, Kinds.shape_of, Live.live_fields}

@@ -2,9 +2,8 @@
 use Rattle.std.proofs.Common.{ℕ, List, [], ◌∷◌, ◌++◌, ◌⊎◌, refl, sym, ap, ◌∙◌, arith, append-nil, append_assoc}
 use mathlib.Core.Logic.{inl}
 use Rattle.std.specs.List.{concat}
-use Rattle.std.proofs.lemmas.{List.Elements.All-nil, List.Elements.All-cons, List.Elements.All-append, List.Folds.concat-append}
-use Rattle.fb_bytes.specs.declared.cut.Cut.{Cut}
-use Rattle.fb_bytes.specs.Messages.{IsMessage, IsPartial, IsOversize, Splits}
+use Rattle.std.proofs.lemmas.List.{Elements.All-nil, Elements.All-cons, Elements.All-append, Folds.concat-append}
+use Rattle.fb_bytes.specs.{declared.cut.Cut.Cut, Messages.IsMessage, Messages.IsPartial, Messages.IsOversize, Messages.Splits}
 
 -- the rest with more bytes is split further
 pub splits_then : (cut : Cut) (bytes more held rest : List ℕ) (xs ys : List (List ℕ))

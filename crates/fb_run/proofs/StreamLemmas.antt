@@ -1,15 +1,14 @@
 -- What was read and told, and then more of the stream.
-use Rattle.std.proofs.Common.{◌≡◌, ◌⊎◌, ℕ, ◌-◌, ◌<◌, Bool, true≢false, List, [], ◌∷◌, ◌++◌, take, drop, refl, sym, ap, subst, ◌∙◌, arith, Result, Ok, Err, append-nil, append_assoc, length-append}
+use Rattle.std.proofs.Common.{◌≡◌, ◌⊎◌, ℕ, ◌-◌, ◌<◌, ◌≤◌, Bool, true≢false, List, [], ◌∷◌, ◌++◌, take, drop, refl, sym, ap, subst, ◌∙◌, arith, Result, Ok, Err, append-nil, append_assoc, length, length-append, length-take-le, take-append-drop}
 use mathlib.Core.Logic.{inl, inr}
-use Rattle.fb_bytes.specs.Messages.{declared, IsMessage, IsOversize, IsPartial, Splits}
-use Rattle.fb_bytes.specs.Framing.{Framing, Feeds, FeedFails}
+use Rattle.fb_bytes.specs.{Messages.declared, Messages.IsMessage, Messages.IsOversize, Messages.IsPartial, Messages.Splits, Framing.Framing, Framing.Feeds, Framing.FeedFails}
 use Rattle.fb_bytes.specs.declared.{cut.Cut.Cut, stream_fault.StreamFault.StreamFault}
 use Rattle.fb_bytes.specs.declared.stream_fault.StreamFault.TheVariants as stream
 use Rattle.fb_bytes.proofs.MessageLemmas.{readings_some}
 use Rattle.fb_run.specs.{Ends.Outs, Faults.feed_fault, Job.Beside, Job.HasRoom, Job.Job, Job.cut_of, Spot.Before, Spot.HasDue, Spot.IsDue, Spot.IsFull, Spot.past_all, Texts.Texts, Texts.followed, Texts.silent, Job.Verdict, Sums.no_tally, Sums.tally_with}
 use Rattle.fb_run.specs.Puts.{Adds, AddsBy, AreCut, AreOpen, AreSound, PutsAll, PutsTold, Queues, all_unused, unused}
 use Rattle.fb_run.specs.Stream.{TellsMore}
-use Rattle.fb_run.specs.Pieces.{AreEmpty, AreSettled, Carry, Gathers, GoesOn, Halts, IsReady, Passes, PassesAllBy, PassesFront, Stands, Stops, TellsOne, WritesBy}
+use Rattle.fb_run.specs.Pieces.{AreEmpty, Carry, Gathers, GoesOn, Halts, IsReady, Passes, PassesAllBy, PassesBy, PassesFront, Stands, Stops, TellsOne, WritesBy}
 use Rattle.fb_run.specs.declared.{tally.Tally.Tally, fault.RunFault.RunFault}
 use Rattle.fb_run.specs.declared.fault.RunFault.TheVariants as run
 use Rattle.fb_run.proofs.{InPieces.front-more, Splitting.empty_partial, Splitting.splits_one, Splitting.splits_rest, Splitting.splits_then}
@@ -29,7 +28,7 @@ module _ (job : Job) (first : Outs) where
   }
 
   -- a message was whole, and what is told of it was put
-  pub message_stands : (bytes more message : List ℕ) (before after : Carry) → message ≡ before.framer.held ++ more → IsMessage (cut_of job) message → after.framer.held ≡ [] → IsDue job (past_all job before.tally)
+  message_stands : (bytes more message : List ℕ) (before after : Carry) → message ≡ before.framer.held ++ more → IsMessage (cut_of job) message → after.framer.held ≡ [] → IsDue job (past_all job before.tally)
       → AreOpen before.queues → Adds job (past_all job before.tally) message before.queues after.queues before.tally after.tally → Stands job first bytes before → Stands job first (bytes ++ more) after
   message_stands bytes more message before after at is gone due fine adds stands =
       let one : Splits (cut_of job) (before.framer.held ++ more) (message ∷ []) [] = rw (← at) (splits_one (cut_of job) message is) in
@@ -91,13 +90,13 @@ module _ (job : Job) (first : Outs) where
           told = stands.told;
           puts = stands.puts;
         },
-        (due, fine, refl, over, refused.number ∙ ap (λ (u : Cut). declared u.order (held ++ piece)) cut),
+        inr (fine, (due, refl, over, refused.number ∙ ap (λ (u : Cut). declared u.order (held ++ piece)) cut)),
       )
-  feed_halts bytes piece before framer stream.OutOfMemory cut fine due starved stands = (gathers_more bytes piece before stands, fine)
+  feed_halts bytes piece before framer stream.OutOfMemory cut fine due starved stands = (gathers_more bytes piece before stands, inr (fine, tt))
   feed_halts bytes piece before framer _ cut fine due never stands = absurd never
 
   -- a message was whole at the front of a piece, and a write failed or there was no memory
-  pub add_halts : (bytes front tail piece message : List ℕ) (before : Carry) (queues : Queues) (tally : Tally) (fault : RunFault) → piece ≡ front ++ tail → message ≡ before.framer.held ++ front
+  add_halts : (bytes front tail piece message : List ℕ) (before : Carry) (queues : Queues) (tally : Tally) (fault : RunFault) → piece ≡ front ++ tail → message ≡ before.framer.held ++ front
       → IsMessage (cut_of job) message → AreOpen before.queues → IsDue job (past_all job before.tally)
       → AddsBy job (past_all job before.tally) message before.queues queues before.tally tally (Err fault) → Stands job first bytes before → Halts job first (bytes ++ piece) tally queues fault
   add_halts bytes front tail piece message before queues tally fault whole at is fine due adds stands = by fault adds
@@ -109,11 +108,8 @@ module _ (job : Job) (first : Outs) where
           (gathers_more (bytes ++ front) tail after (message_stands bytes front message before after at is refl due fine one stands))
 
       by : (f : RunFault) → AddsBy job (past_all job before.tally) message before.queues queues before.tally tally (Err f) → Halts job first (bytes ++ piece) tally queues f
-      by run.OutOfMemory (same, counted) = rw (same, counted) (gathers_more bytes piece before stands, fine)
-      by (run.WriteFault written) (one, cut) = (come one, cut)
-      by (run.NoteFault written) (one, cut) = (come one, cut)
-      by (run.RejectFault written) (one, cut) = (come one, cut)
-      by _ (one, never) = absurd never
+      by run.OutOfMemory (same, counted) = rw (same, counted) (gathers_more bytes piece before stands, inr (fine, tt))
+      by _ (one, cut) = (come one, inl cut)
 
   -- nothing more was put
   pub still : (text : Texts) (a b : Queues) → PutsTold text (all_unused first) a → PutsAll silent a b → PutsTold text (all_unused first) b
@@ -159,26 +155,19 @@ module _ (job : Job) (first : Outs) where
   flush_halts : (bytes piece : List ℕ) (before mid : Carry) (queues : Queues) (end : Result (Unit {0}) RunFault) (fault : RunFault) → PassesAllBy job piece before mid end
       → PutsAll silent mid.queues queues → AreCut queues fault → Stands job first bytes before → Halts job first (bytes ++ piece) mid.tally queues fault
   flush_halts bytes piece before mid queues end fault passed none cut stands =
-      by fault cut (gathers_still (bytes ++ piece) mid.tally mid.queues queues none (passed_gathers bytes piece before mid end passed stands))
-    where
-      by : (f : RunFault) → AreCut queues f → Gathers job first (bytes ++ piece) mid.tally queues → Halts job first (bytes ++ piece) mid.tally queues f
-      by (run.WriteFault written) is gathers = (gathers, is)
-      by (run.NoteFault written) is gathers = (gathers, is)
-      by (run.RejectFault written) is gathers = (gathers, is)
-      by _ never gathers = absurd never
+      (gathers_still (bytes ++ piece) mid.tally mid.queues queues none (passed_gathers bytes piece before mid end passed stands), inl cut)
 
   -- or it came to rest before, and what waited was written
   flushed_halts : (bytes : List ℕ) (tally : Tally) (a b : Queues) (fault : RunFault) → PutsAll silent a b → AreOpen b → Halts job first bytes tally a fault → Halts job first bytes tally b fault
   unfolding gathers_still
-  flushed_halts bytes tally a b (run.Stream (stream.Oversize number)) none fine (gathers, why) = (gathers_still bytes tally a b none gathers, (why.0, fine, why.2, why.3, why.4))
-  flushed_halts bytes tally a b run.OutOfMemory none fine (gathers, why) = (gathers_still bytes tally a b none gathers, fine)
-  flushed_halts bytes tally a b (run.WriteFault written) none fine (gathers, why) = absurd (true≢false (sym why.0 ∙ was_unfailed [] a.out b.out none.0 fine.0))
-  flushed_halts bytes tally a b (run.NoteFault written) none fine (gathers, why) = absurd (true≢false (sym why.0 ∙ was_unfailed [] a.notes b.notes none.1 fine.1))
-  flushed_halts bytes tally a b (run.RejectFault written) none fine (gathers, why) = absurd (true≢false (sym why.0 ∙ was_unfailed [] a.rejects b.rejects none.2 fine.2))
-  flushed_halts bytes tally a b _ none fine (gathers, never) = absurd never
+  flushed_halts bytes tally a b fault none fine (gathers, inr (was, why)) = (gathers_still bytes tally a b none gathers, inr (fine, why))
+  flushed_halts bytes tally a b (run.WriteFault written) none fine (gathers, inl cut) = absurd (true≢false (sym cut.0 ∙ was_unfailed [] a.out b.out none.0 fine.0))
+  flushed_halts bytes tally a b (run.NoteFault written) none fine (gathers, inl cut) = absurd (true≢false (sym cut.0 ∙ was_unfailed [] a.notes b.notes none.1 fine.1))
+  flushed_halts bytes tally a b (run.RejectFault written) none fine (gathers, inl cut) = absurd (true≢false (sym cut.0 ∙ was_unfailed [] a.rejects b.rejects none.2 fine.2))
+  flushed_halts bytes tally a b _ none fine (gathers, inl never) = absurd never
 
 -- a message was counted
-pub one_told : (message : List ℕ) (verdict : Verdict) {before after : Tally} → after ≡ tally_with message verdict before → TellsOne before after
+one_told : (message : List ℕ) (verdict : Verdict) {before after : Tally} → after ≡ tally_with message verdict before → TellsOne before after
 one_told message (Ok found) {before} {after} is = rw is (record { messages = omega arith; bad = omega arith })
 one_told message (Err bad) {before} {after} is = rw is (record { messages = omega arith; bad = omega arith })
 
@@ -203,7 +192,7 @@ pub passed_sound : (job : Job) (piece : List ℕ) (before mid : Carry) (end : Re
 passed_sound job piece before mid (Ok done) passes = open_sound mid.queues passes.goes_on.unfailed
 passed_sound job piece before mid (Err fault) (stops, sound) = sound
 
-pub added_sound : (job : Job) (past : Before) (message : List ℕ) (before after : Queues) (tally tally' : Tally) (fault : RunFault) → AreOpen before → AddsBy job past message before after tally tally' (Err fault) → AreSound after
+added_sound : (job : Job) (past : Before) (message : List ℕ) (before after : Queues) (tally tally' : Tally) (fault : RunFault) → AreOpen before → AddsBy job past message before after tally tally' (Err fault) → AreSound after
 added_sound job past message before after tally tally' run.OutOfMemory fine (same, counted) = rw same (open_sound before fine)
 added_sound job past message before after tally tally' (run.WriteFault written) fine (one, cut) =
     record { noted = λ is. absurd (true≢false (sym is ∙ cut.1)); rejected = λ is. absurd (true≢false (sym is ∙ cut.2)) }
@@ -212,23 +201,6 @@ added_sound job past message before after tally tally' (run.NoteFault written) f
 added_sound job past message before after tally tally' (run.RejectFault written) fine (one, cut) =
     record { noted = λ is. absurd (true≢false (sym is ∙ cut.2)); rejected = λ is. ((cut.1, cut.3), (cut.2, cut.4)) }
 added_sound job past message before after tally tally' _ fine (one, never) = absurd never
-
-settled_empty : (queues : Queues) (fault : RunFault) → AreEmpty queues → AreSettled queues fault
-settled_empty queues (run.WriteFault written) empty = tt
-settled_empty queues (run.NoteFault written) empty = tt
-settled_empty queues (run.RejectFault written) empty = tt
-settled_empty queues run.ReadFault empty = empty
-settled_empty queues run.TooManyTurns empty = empty
-settled_empty queues run.OutOfMemory empty = empty
-settled_empty queues (run.Stream fault) empty = empty
-settled_empty queues (run.BareTooLong limit) empty = empty
-settled_empty queues (run.SkipPastEnd skip) empty = empty
-
-settled_cut : (queues : Queues) (fault : RunFault) → AreCut queues fault → AreSettled queues fault
-settled_cut queues (run.WriteFault written) cut = tt
-settled_cut queues (run.NoteFault written) cut = tt
-settled_cut queues (run.RejectFault written) cut = tt
-settled_cut queues _ never = absurd never
 
 -- a piece was passed, and what waited behind it was written
 pub flushed : (job : Job) (piece : List ℕ) (before mid : Carry) (queues : Queues) (end : Result (Unit {0}) RunFault) → PassesAllBy job piece before mid end → PutsAll silent mid.queues queues
@@ -249,17 +221,43 @@ flushed job piece before mid queues (Ok done) passes none fine empty = (
   empty,
 )
 flushed job piece before mid queues (Err fault) (stops, sound) none fine empty =
-    (λ first bytes stands. flushed_halts job first (bytes ++ piece) mid.tally mid.queues queues fault none fine (stops first bytes stands), settled_empty queues fault empty)
+    (λ first bytes stands. flushed_halts job first (bytes ++ piece) mid.tally mid.queues queues fault none fine (stops first bytes stands), inr empty)
 
 -- or the write failed
 pub cut_short : (job : Job) (piece : List ℕ) (before mid : Carry) (queues : Queues) (end : Result (Unit {0}) RunFault) (fault : RunFault) → PassesAllBy job piece before mid end
     → PutsAll silent mid.queues queues → AreCut queues fault → WritesBy job piece before (record mid { queues = queues }) (Err fault)
 cut_short job piece before mid queues end fault passed none cut =
-    (λ first bytes stands. flush_halts job first bytes piece before mid queues end fault passed none cut stands, settled_cut queues fault cut)
+    (λ first bytes stands. flush_halts job first bytes piece before mid queues end fault passed none cut stands, inl cut)
 
 -- the room was used, and is as large
 pub still_ready : {job : Job} {framer : Framing} {room room' : Beside} → IsReady job framer room → HasRoom job room' → IsReady job framer room'
 still_ready ready fits = record { fits = fits; fine = ready.fine; cut = ready.cut; short = ready.short; part = ready.part }
+
+-- a message was whole at the front of the rest of a piece, and what is told of it was put; or a write failed, or there was
+-- no memory
+module _ {job : Job} (rest message : List ℕ) (used : ℕ) (before after : Carry) (at : message ≡ before.framer.held ++ take used rest) (is : IsMessage (cut_of job) message)
+    (fine : AreOpen before.queues) (due : IsDue job (past_all job before.tally)) where
+  pub message_passes : used ≤ length rest → 0 < used → after.framer.held ≡ [] → IsReady job after.framer after.room
+      → AddsBy job (past_all job before.tally) message before.queues after.queues before.tally after.tally (Ok tt) → Passes job rest used before after
+  message_passes within some gone ready (adds, opened) =
+      let one = one_told message adds.verdict adds.tally_is in
+      record {
+        within = within;
+        some = some;
+        goes_on = record {
+          onward = λ first bytes stands. message_stands job first bytes (take used rest) message before after at is gone due fine adds stands;
+          ready = ready;
+          unfailed = opened;
+          few = omega (arith, one.messages, some, length-take-le used rest within);
+        };
+        one = one;
+      }
+
+  pub message_stops : (fault : RunFault) → AddsBy job (past_all job before.tally) message before.queues after.queues before.tally after.tally (Err fault) → PassesBy job rest before after (Err fault)
+  message_stops fault adds = (
+    λ first bytes stands. add_halts job first bytes (take used rest) (drop used rest) rest message before after.queues after.tally fault (sym (take-append-drop used rest)) at is fine due adds stands,
+    added_sound job _ message before.queues after.queues before.tally after.tally fault fine adds,
+  )
 
 -- no byte was passed
 pub goes_none : (job : Job) (now : Carry) → IsReady job now.framer now.room → AreOpen now.queues → GoesOn job [] now now

@@ -1,7 +1,6 @@
 -- What a strict ok says without the plan.
 use Rattle.std.proofs.Common.{ℕ, List, Option, Some, None, arith}
-use Rattle.fb_rules.specs.declared.fault.Report.{Report}
-use Rattle.fb_rules.specs.Question.{Question}
+use Rattle.fb_rules.specs.{declared.fault.Report.Report, Question.Question}
 use Rattle.fb_strict.specs.{AsAsked.ReportsBy, Laws.IsOk, Planned.Planned}
 use Rattle.fb_strict.proofs.OneVerdict as strict
 use Rattle.fb_run.specs.{Job.asked_of, StrictLaws.StrictIsOk}

@@ -19,10 +19,6 @@ reads_both a b c = omega arith
 pub with_both : (x y : List ℕ) (v w : Verdict) (t : Tally) → tally_with x v (tally_with y w t) ≡ tally_with y w (tally_with x v t)
 with_both x y v w t = grind (arith, reads_both, one_both)
 
--- each message has one verdict
-pub counts_one : (m : List ℕ) (v : Verdict) (t : Tally) → (tally_with m v t).yes + (tally_with m v t).no ≡ 1 + (t.yes + t.no)
-counts_one m v t = grind arith
-
 -- nothing is within any bounds
 pub nothing_bounded : IsBounded no_tally
 nothing_bounded = record { places = refl; reasons = search rules; bytes = omega arith; tables = omega arith }

@@ -3,7 +3,7 @@ use Rattle.std.proofs.Common.{◌≡◌, ◌≢◌, ◌⊎◌, inl, inr, ℕ, �
 use Rattle.std.specs.Prelude.{map}
 use Rattle.fb_run.specs.{AnswerText.answers_text, AnswerText.label_text, Csv.IsRow, Job.IsVerdict, Job.Job, Job.No, Job.Verdict, Job.Yes, Job.buffer_in, Job.is_brief, Json.begin_part}
 use Rattle.fb_run.specs.{Json.counts_part, Json.following, Line.IsLine, Line.IsLineBy, Line.IsLineIn, Line.IsRest, Line.SaidBy, Line.front_in, Line.rejected, Line.short_line, Line.verdict_line}
-use Rattle.fb_run.specs.{Puts.Adds, Puts.AddsBy, Puts.AddsOr, Puts.AreSo, Puts.Puts, Puts.PutsFront, Puts.PutsSome, Puts.PutsTold, Puts.Queue, Puts.Queues, Puts.Says, Puts.Tells, Spot.Before}
+use Rattle.fb_run.specs.{Puts.Adds, Puts.AddsOr, Puts.AreSo, Puts.Puts, Puts.PutsFront, Puts.PutsSome, Puts.PutsTold, Puts.Queue, Puts.Queues, Puts.Says, Puts.Tells, Spot.Before}
 use Rattle.fb_run.specs.{Spot.spot_of, Sums.tally_with, Texts.Texts, Texts.silent, Texts.spoken, Texts.to_notes, Texts.to_out, Texts.to_rejects, Wanted.Wanted}
 use Rattle.fb_run.specs.declared.{fault.RunFault.RunFault, options.LineForm.LineForm, options.Mode.Mode, options.Rejects.Rejects, spot.Spot.Spot, tally.Tally.Tally}
 use Rattle.fb_run.specs.declared.fault.RunFault.TheVariants as run
@@ -32,33 +32,33 @@ said_spoken Csv P message (Ok found) said (line, is, there) = (line, is, ap spok
 said_spoken Csv P message (Err bad) said (line, is, there) = (line, is, ap spoken there)
 
 -- where no rows are asked for, and of each bad message, a line is written
-pub line_by : (mode : Mode) (job : Job) (spot : Spot) (v : Verdict) (line : List ℕ) → mode ≢ Csv → IsLineIn job.form job spot v line → IsLineBy mode job spot v line
+pub line_by : (mode : Mode) (job : Job) (spot : Spot) (v : Verdict) (line : List ℕ) → mode ≢ Csv → IsLineIn job.terms.form job spot v line → IsLineBy mode job spot v line
 line_by Lines job spot v line other is = is
 line_by BadLines job spot v line other is = is
 line_by Filter job spot v line other is = is
 line_by Csv job spot v line other is = absurd (other refl)
 
-pub bad_line_by : (mode : Mode) (job : Job) (spot : Spot) (bad : No) (line : List ℕ) → IsLineIn job.form job spot (Err bad) line → IsLineBy mode job spot (Err bad) line
+pub bad_line_by : (mode : Mode) (job : Job) (spot : Spot) (bad : No) (line : List ℕ) → IsLineIn job.terms.form job spot (Err bad) line → IsLineBy mode job spot (Err bad) line
 bad_line_by Lines job spot bad line is = is
 bad_line_by BadLines job spot bad line is = is
 bad_line_by Filter job spot bad line is = is
 bad_line_by Csv job spot bad line is = is
 
 -- so where the mode is that of lines, of each bad message, and of a row
-pub as_line : (job : Job) (spot : Spot) (v : Verdict) → job.mode ≡ Lines → (line : List ℕ) → IsLineIn job.form job spot v line → IsLine job spot v line
+pub as_line : (job : Job) (spot : Spot) (v : Verdict) → job.terms.mode ≡ Lines → (line : List ℕ) → IsLineIn job.terms.form job spot v line → IsLine job spot v line
 as_line job spot v lines line is = subst (λ m. IsLineBy m job spot v line) (sym lines) is
 
-pub bad_as_line : (job : Job) (spot : Spot) (v : Verdict) (bad : No) → v ≡ Err bad → (line : List ℕ) → IsLineIn job.form job spot v line → IsLine job spot v line
-bad_as_line job spot v bad same line is = subst (λ w. IsLine job spot w line) (sym same) (bad_line_by job.mode job spot bad line (subst (λ w. IsLineIn job.form job spot w line) same is))
+pub bad_as_line : (job : Job) (spot : Spot) (v : Verdict) (bad : No) → v ≡ Err bad → (line : List ℕ) → IsLineIn job.terms.form job spot v line → IsLine job spot v line
+bad_as_line job spot v bad same line is = subst (λ w. IsLine job spot w line) (sym same) (bad_line_by job.terms.mode job spot bad line (subst (λ w. IsLineIn job.terms.form job spot w line) same is))
 
-pub row_as_line : (job : Job) (spot : Spot) (v : Verdict) (found : Yes) → v ≡ Ok found → job.mode ≡ Csv → (row : List ℕ) → IsRow job.label found.answers row → IsLine job spot v row
+pub row_as_line : (job : Job) (spot : Spot) (v : Verdict) (found : Yes) → v ≡ Ok found → job.terms.mode ≡ Csv → (row : List ℕ) → IsRow job.label found.answers row → IsLine job spot v row
 row_as_line job spot v found same csv row is = subst (λ w. IsLine job spot w row) (sym same) (subst (λ m. IsLineBy m job spot (Ok found) row) (sym csv) is)
 
 -- where no more is asked, a line tells numbers
 brief_line : (job : Job) (spot : Spot) (v : Verdict) → IsTrue (is_brief job) → (line : List ℕ) → line ≡ verdict_line spot.number v → IsLine job spot v line
 brief_line job spot v brief line is =
-    let none = asks_none job.paths job.names job.label job.form job.mode brief in
-    line_by job.mode job spot v line none.4 (subst (λ f. IsLineIn f job spot v line) (sym none.3) (is ∙ ap (λ l. label_text l ++ verdict_line spot.number v) (sym none.2)))
+    let none = asks_none job.paths job.terms.names job.label job.terms.form job.terms.mode brief in
+    line_by job.terms.mode job spot v line none.4 (subst (λ f. IsLineIn f job spot v line) (sym none.3) (is ∙ ap (λ l. label_text l ++ verdict_line spot.number v) (sym none.2)))
 
 -- a line of a yes by its two parts, and that of a no
 pub line_of_yes : (f : LineForm) (job : Job) (spot : Spot) (found : Yes) (front rest : List ℕ) → front ≡ front_in f job spot (Ok found) → IsRest f (map (λ (wanted : Wanted). wanted.text) job.paths) found.answers rest
@@ -77,31 +77,17 @@ line_of_no form.Json job spot bad front is = is
 
 module _ (job : Job) (past : Before) (message : List ℕ) (v : Verdict) (before after : Queues) (tally tally' : Tally) where
   -- by its verdict a message has this told of it
-  pub adds_told : IsVerdict job (buffer_in job message) v → Tells job.mode job.rejects (IsLine job (spot_of past message) v) message v before after → tally' ≡ tally_with message v tally → Adds job past message before after tally tally'
+  pub adds_told : IsVerdict job (buffer_in job message) v → Tells job.terms.mode job.rejects (IsLine job (spot_of past message) v) message v before after → tally' ≡ tally_with message v tally → Adds job past message before after tally tally'
   adds_told is tells counted = record { verdict = v; told = tells.told; is_told = record { verdict_is = is; text = tells.is_told }; puts = tells.puts; tally_is = counted }
 
   -- so it has where no more is asked
-  adds_briefly : (mode : Mode) → mode ≡ job.mode → IsTrue (is_brief job) → IsVerdict job (buffer_in job message) v → Tells mode job.rejects (λ line. line ≡ verdict_line (1 + past.messages) v) message v before after
+  pub adds_briefly : (mode : Mode) → mode ≡ job.terms.mode → IsTrue (is_brief job) → IsVerdict job (buffer_in job message) v → Tells mode job.rejects (λ line. line ≡ verdict_line (1 + past.messages) v) message v before after
       → tally' ≡ tally_with message v tally → Adds job past message before after tally tally'
   adds_briefly mode same brief is tells counted =
       let said = said_weaker (brief_line job (spot_of past message) v brief) message mode v (spoken tells.told) tells.is_told.0 in
       adds_told is
       (record { told = tells.told; is_told = (subst (λ m. SaidBy m (IsLine job (spot_of past message) v) message v (spoken tells.told)) same said, tells.is_told.1); puts = tells.puts })
       counted
-
-  pub yes_added : (mode : Mode) (end : Result (Unit {0}) RunFault) → mode ≡ job.mode → IsTrue (is_brief job) → IsVerdict job (buffer_in job message) v
-      → Tells mode job.rejects (λ line. line ≡ verdict_line (1 + past.messages) v) message v before after → tally' ≡ tally_with message v tally → AreSo after end → AddsBy job past message before after tally tally' end
-  yes_added mode (Ok done) same brief is tells counted so = (adds_briefly mode same brief is tells counted, so)
-  yes_added mode (Err (run.WriteFault written)) same brief is tells counted so = (adds_briefly mode same brief is tells counted, so)
-  yes_added mode (Err (run.NoteFault written)) same brief is tells counted so = (adds_briefly mode same brief is tells counted, so)
-  yes_added mode (Err (run.RejectFault written)) same brief is tells counted so = (adds_briefly mode same brief is tells counted, so)
-  yes_added mode (Err _) same brief is tells counted so = absurd so
-
-  pub no_added : (end : Result (Unit {0}) RunFault) → IsVerdict job (buffer_in job message) v
-      → AddsOr (Tells job.mode job.rejects (IsLine job (spot_of past message) v) message v before after × (tally' ≡ tally_with message v tally)) before after tally tally' end → AddsBy job past message before after tally tally' end
-  no_added (Ok done) is (both, so) = (adds_told is both.0 both.1, so)
-  no_added (Err run.OutOfMemory) is kept = kept
-  no_added (Err _) is (both, so) = (adds_told is both.0 both.1, so)
 
 -- where something holds by then, an end that isn't want of memory has it
 pub added_so : {Added : Type 0} (before after : Queues) (tally tally' : Tally) (end : Result (Unit {0}) RunFault) → Added → AreSo after end → AddsOr Added before after tally tally' end

@@ -2,10 +2,8 @@
 use Rattle.std.proofs.Common.{◌≡◌, ◌∙◌, ℕ, ◌+◌, ◌-◌, ◌<◌, ◌≤◌, true, false, List, [], ◌++◌, ap, append-nil, arith, drop, length, refl, subst, sym, take}
 use mathlib.Core.Logic.{inl, inr}
 use Rattle.std.specs.Io.KnownBytes.{Consumes, Keeps}
-use Rattle.std.proofs.KnownBytes.{Consumes-kept, Consumes-nil, Consumes-trans, Keeps-refl}
-use Rattle.std.proofs.lemmas.List.{drop_all, length-append}
-use Rattle.fb_run.specs.{Bare.Untold, Ends.Outs, Ends.Reader, Job.Job, Job.checked_in, Leave.IsUnended, Sums.no_tally, Whole.FailsWhole, Whole.ReadsWhole}
-use Rattle.fb_run.specs.declared.skip.Skip.{Skip}
+use Rattle.std.proofs.{KnownBytes.Consumes-kept, KnownBytes.Consumes-nil, KnownBytes.Consumes-trans, KnownBytes.Keeps-refl, lemmas.List.drop_all, lemmas.List.length-append}
+use Rattle.fb_run.specs.{Bare.Untold, Ends.Outs, Ends.Reader, Job.Job, Job.checked_in, Leave.IsUnended, Sums.no_tally, Whole.FailsWhole, Whole.ReadsWhole, declared.skip.Skip.Skip}
 use Rattle.fb_run.specs.declared.fault.RunFault.TheVariants as run
 use Rattle.fb_run.proofs.SkipLemmas.{LeavesOut, checked_more, skips_more}
 
@@ -15,7 +13,7 @@ pub record Gathered (job : Job) (first now : Reader) (whole : List ℕ) (skip : 
   pub read : Consumes first.left now.left bytes
   pub skips : LeavesOut job bytes skip
   pub whole_is : whole ≡ checked_in job bytes
-  pub within : length whole ≤ job.limit
+  pub within : length whole ≤ job.terms.max_bytes
   pub fewer : left ≤ turns
   pub calls : now.calls + left ≡ first.calls + turns
   pub asks : IsUnended first now
@@ -25,7 +23,7 @@ gathered_nothing job reader whole skip turns none skips = record {
   bytes = [];
   read = Consumes-nil reader.left;
   skips = skips;
-  whole_is = none ∙ sym (drop_all job.begin [] (omega arith));
+  whole_is = none ∙ sym (drop_all job.terms.skip [] (omega arith));
   within = rw none (omega arith);
   fewer = omega arith;
   calls = omega arith;
@@ -36,7 +34,7 @@ module _ {job : Job} {first now : Reader} {whole : List ℕ} {skip : Skip} {turn
   untold : (outs : Outs) → Untold outs outs no_tally
   untold outs = ((Keeps-refl outs.writer.bytes, Keeps-refl outs.notes.bytes, Keeps-refl outs.rejects.bytes), refl)
 
-  pub gathered_within : length (checked_in job gathered.bytes) ≤ job.limit
+  pub gathered_within : length (checked_in job gathered.bytes) ≤ job.terms.max_bytes
   gathered_within = omega (arith, gathered.within, ap length gathered.whole_is)
 
   -- there are no more reads
@@ -87,20 +85,20 @@ module _ {job : Job} {first now : Reader} {whole : List ℕ} {skip : Skip} {turn
     size = ap length grown ∙ length-append whole more
 
     -- it is too long
-    pub long_fails : (limit : ℕ) → limit ≡ job.limit → job.limit < length whole + length more → FailsWhole job turns first reader (run.BareTooLong limit)
+    pub long_fails : (limit : ℕ) → limit ≡ job.terms.max_bytes → job.terms.max_bytes < length whole + length more → FailsWhole job turns first reader (run.BareTooLong limit)
     long_fails limit is over = record {
       fails = λ outs. (gathered.bytes ++ take k piece, reads, (is, omega (arith, over, size), untold outs));
       cause = λ outs. (same ∙ gathered.asks.0, refl, refl, refl);
     }
 
     -- there is no memory for it
-    pub memory_fails : length whole + length more ≤ job.limit → FailsWhole job turns first reader run.OutOfMemory
+    pub memory_fails : length whole + length more ≤ job.terms.max_bytes → FailsWhole job turns first reader run.OutOfMemory
     memory_fails under = record {
       fails = λ outs. (gathered.bytes ++ take k piece, reads, (omega (arith, under, size), untold outs));
       cause = λ outs. (same ∙ gathered.asks.0, refl, refl, refl);
     }
 
-    pub gathered_more : {whole' : List ℕ} {skip' : Skip} → whole' ≡ whole ++ more → length whole + length more ≤ job.limit → 0 < left → reader.calls ≡ now.calls + 1 → reader.ended ≡ false
+    pub gathered_more : {whole' : List ℕ} {skip' : Skip} → whole' ≡ whole ++ more → length whole + length more ≤ job.terms.max_bytes → 0 < left → reader.calls ≡ now.calls + 1 → reader.ended ≡ false
         → skip'.all ≡ skip.all → skip'.left ≡ skip.left - length (take k piece) → Gathered job first reader whole' skip' turns (left - 1)
     gathered_more {whole'} {skip'} is under some called unended alike less = record {
       bytes = gathered.bytes ++ take k piece;

@@ -1,10 +1,9 @@
 -- What is told of many messages, and what gathers and writes it.
 use Rattle.std.specs.Prelude.{◌≡◌, ℕ, ◌+◌, ◌<◌, List, [], ◌∷◌, ◌++◌, Option, length, take}
 use Rattle.std.specs.Io.KnownBytes.{Appends, Keeps}
-use Rattle.fb_run.specs.{Job.Job, Job.Verdict, Ends.Outs, Line.IsTold, Spot.Before, Spot.IsDue, Spot.past, Sums.no_tally, Sums.tally_with}
-use Rattle.fb_run.specs.Texts.{IsCounted, Sizes, Texts, followed, silent}
-use Rattle.fb_run.specs.declared.{tally.Tally.Tally, fault.RunFault.RunFault}
-use Rattle.fb_run.specs.declared.fault.RunFault.TheVariants.{WriteFault, NoteFault, RejectFault}
+use Rattle.fb_run.specs.{Job.Job, Job.Verdict, Ends.Outs, Line.IsTold, Spot.Before, Spot.IsDue, Spot.past, Sums.no_tally, Sums.tally_with, Texts.IsCounted, Texts.Sizes}
+use Rattle.fb_run.specs.{Texts.Texts, Texts.followed, Texts.silent, declared.tally.Tally.Tally, declared.fault.RunFault.RunFault, declared.fault.RunFault.TheVariants.WriteFault}
+use Rattle.fb_run.specs.declared.fault.RunFault.TheVariants.{NoteFault, RejectFault}
 
 -- the text is what is told of each message, the first of them behind so much and each where another is told, and the
 -- messages come to this by their verdicts

@@ -3,10 +3,9 @@ use Rattle.std.specs.Prelude.{ℕ, List, [], ◌∷◌, ◌++◌, Option, Some, 
 use Rattle.std.specs.{Fmt.signed_decimal, List.flat_map}
 use Rattle.hex.specs.Hex.{encode_lower}
 use Rattle.json.specs.Print.{escape_byte}
-use Rattle.fb_run.specs.declared.{value_text.Spelling.Spelling, value_text.Spelling.TheVariants.Quoted}
-use Rattle.fb_run.specs.declared.{value_text.Spelling.TheVariants.Json, value_text.Spelling.TheVariants.Digits, value_text.Spelling.TheVariants.Doubled}
-use Rattle.fb_access.specs.declared.answer.Answer.{Answer}
-use Rattle.fb_access.specs.Denotes.{Shown, shown, nothing, no_element, other_member, truth, signed, unsigned, float, default_float, default_double, text, structure, vector, table, union}
+use Rattle.fb_run.specs.declared.value_text.Spelling.{Spelling, TheVariants.Quoted, TheVariants.Json, TheVariants.Digits, TheVariants.Doubled}
+use Rattle.fb_access.specs.{declared.answer.Answer.Answer, Denotes.Shown, Denotes.shown, Denotes.nothing, Denotes.no_element, Denotes.other_member, Denotes.truth, Denotes.signed}
+use Rattle.fb_access.specs.Denotes.{unsigned, float, default_float, default_double, text, structure, vector, table, union}
 
 -- a byte of a text: a quote and a backslash stand behind a backslash, and what isn't printable ASCII as two hexadecimal
 -- digits

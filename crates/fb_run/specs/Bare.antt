@@ -1,15 +1,14 @@
 -- What a run over one bare input has read and written, and how it ends.
 use Rattle.std.specs.Prelude.{◌≡◌, ℕ, ◌<◌, ◌≤◌, true, List, length}
 use Rattle.std.specs.Io.KnownBytes.{Consumes}
-use Rattle.fb_run.specs.Ends.{Ends, Outs, Takes, Unwritten}
-use Rattle.fb_run.specs.{Job.Job, Job.Verdict, Job.checked_in, Texts.Texts, Texts.no_bytes, Line.IsTold, Spot.at_first, Sums.no_tally, Sums.tally_with, AllTold.WritesFronts}
-use Rattle.fb_run.specs.declared.{tally.Tally.Tally, fault.RunFault.RunFault}
+use Rattle.fb_run.specs.{Ends.Ends, Ends.Outs, Ends.Takes, Ends.Unwritten, Job.Job, Job.Verdict, Job.checked_in, Texts.Texts, Texts.no_bytes, Line.IsTold, Spot.at_first}
+use Rattle.fb_run.specs.{Sums.no_tally, Sums.tally_with, AllTold.WritesFronts, declared.tally.Tally.Tally, declared.fault.RunFault.RunFault}
 use Rattle.fb_run.specs.declared.fault.RunFault.TheVariants.{WriteFault, NoteFault, RejectFault, Stream, BareTooLong, SkipPastEnd}
 
 -- what was read of an input is its bytes that are left out and a buffer within the limit
 pub record IsBareInput (job : Job) (bytes : List ℕ) : Type 0 where
-  pub begun : job.begin ≤ length bytes
-  pub within : length (checked_in job bytes) ≤ job.limit
+  pub begun : job.terms.skip ≤ length bytes
+  pub within : length (checked_in job bytes) ≤ job.terms.max_bytes
 
 -- the whole input was read, is such, and what is told of its buffer was written
 pub record PassesBare (job : Job) (before after : Ends) (tally : Tally) : Type 0 where
@@ -38,13 +37,13 @@ Untold before after tally = Unwritten before after × (tally ≡ no_tally)
 
 -- what stands written and counted of the bytes that were read, by the fault
 abbrev pub WhyBare : Job → List ℕ → Outs → Outs → Tally → RunFault → Type 0
-WhyBare job bytes before after tally (BareTooLong most) = (most ≡ job.limit) × (job.limit < length (checked_in job bytes)) × Untold before after tally
-WhyBare job bytes before after tally (SkipPastEnd skip) = (skip ≡ job.begin) × (length bytes < skip) × Untold before after tally
+WhyBare job bytes before after tally (BareTooLong most) = (most ≡ job.terms.max_bytes) × (job.terms.max_bytes < length (checked_in job bytes)) × Untold before after tally
+WhyBare job bytes before after tally (SkipPastEnd skip) = (skip ≡ job.terms.skip) × (length bytes < skip) × Untold before after tally
 WhyBare job bytes before after tally (WriteFault written) = WritesPart job bytes before after tally (WriteFault written)
 WhyBare job bytes before after tally (NoteFault written) = WritesPart job bytes before after tally (NoteFault written)
 WhyBare job bytes before after tally (RejectFault written) = WritesPart job bytes before after tally (RejectFault written)
 WhyBare job bytes before after tally (Stream fault) = ⊥
-WhyBare job bytes before after tally fault = (length (checked_in job bytes) ≤ job.limit) × Untold before after tally
+WhyBare job bytes before after tally fault = (length (checked_in job bytes) ≤ job.terms.max_bytes) × Untold before after tally
 
 -- these bytes were read, and then came the fault
 abbrev pub FailsBare : Job → Ends → Ends → Tally → RunFault → Type 0

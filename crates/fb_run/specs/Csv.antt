@@ -1,11 +1,10 @@
 -- Rows of CSV (RFC 4180): fields behind one another with a comma between, and the end of a line.
 use Rattle.std.specs.Prelude.{◌≡◌, ◌==◌, ◌||◌, ℕ, Bool, true, false, if◌then◌else◌, List, [], ◌∷◌, ◌++◌, Option, Some, None, codes, map}
-use Rattle.std.specs.{List.AllZip, List.flat_map, List.list_any}
+use Rattle.std.specs.List.{AllZip, flat_map, list_any}
 use Rattle.json.specs.Json.{Json, null, boolean, number, string}
 use Rattle.fb_access.specs.Denotes.{Shown, text}
-use Rattle.fb_run.specs.{AnswerText.answer_text, AnswerText.doubled, Json.IsValue, Json.json_text, Wanted.Wanted}
-use Rattle.fb_run.specs.declared.{options.Mode.Mode, options.Mode.TheVariants.Csv}
-use Rattle.fb_run.specs.declared.{values.Notation.Notation, values.Notation.TheVariants.AsJson, values.Notation.TheVariants.Field, values.Notation.TheVariants.OnlyField}
+use Rattle.fb_run.specs.{AnswerText.answer_text, AnswerText.doubled, Json.IsValue, Json.json_text, Wanted.Wanted, declared.options.Mode.Mode, declared.options.Mode.TheVariants.Csv}
+use Rattle.fb_run.specs.declared.values.Notation.{Notation, TheVariants.AsJson, TheVariants.Field, TheVariants.OnlyField}
 
 -- bytes as a string between quotes
 abbrev pub enclosed : List ℕ → List ℕ

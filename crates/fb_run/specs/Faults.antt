@@ -1,11 +1,9 @@
 -- What a fault of a part is told as, the causes of faults, and the exit status.
 use Rattle.std.specs.Prelude.{◌≡◌, ℕ, ◌+◌, ◌-◌, ◌==◌, Bool, true, if◌then◌else◌, Result, Ok, Err}
-use Rattle.fb_bytes.specs.Ends.{one_more}
-use Rattle.fb_bytes.specs.declared.stream_fault.StreamFault.{StreamFault}
+use Rattle.fb_bytes.specs.{Ends.one_more, declared.stream_fault.StreamFault.StreamFault}
 use Rattle.fb_bytes.specs.declared.stream_fault.StreamFault.TheVariants as stream
-use Rattle.fb_run.specs.Ends.{Ends, Outs, Writer}
-use Rattle.fb_run.specs.declared.{fault.RunFault.RunFault, tally.Tally.Tally}
-use Rattle.fb_run.specs.declared.fault.RunFault.TheVariants.{ReadFault, WriteFault, NoteFault, RejectFault, Stream, TooManyTurns, OutOfMemory, SkipPastEnd}
+use Rattle.fb_run.specs.{Ends.Ends, Ends.Outs, declared.fault.RunFault.RunFault, declared.tally.Tally.Tally, declared.fault.RunFault.TheVariants.ReadFault}
+use Rattle.fb_run.specs.declared.fault.RunFault.TheVariants.{WriteFault, NoteFault, RejectFault, Stream, TooManyTurns, OutOfMemory, SkipPastEnd}
 
 -- a fault of the framer
 abbrev pub feed_fault : StreamFault → RunFault
@@ -44,11 +42,6 @@ IsCaused before after left ended _ = IsUnfailed before after
 -- the same where it befell the writer, the notes and the rejects alone, whatever is read
 abbrev pub IsCausedOut : Outs → Outs → RunFault → Type 0
 IsCausedOut before after fault = (reads left : ℕ) (ended : Bool) → IsCaused (failed reads before) (failed reads after) left ended fault
-
--- and where it befell the writer alone
-abbrev pub IsCausedWriting : Writer → Writer → RunFault → Type 0
-IsCausedWriting before after fault =
-    (notes rejects : Writer) → IsCausedOut (record { writer = before; notes = notes; rejects = rejects }) (record { writer = after; notes = notes; rejects = rejects }) fault
 
 -- no call of the writer, the notes or the rejects failed
 abbrev pub IsUnfailedOut : Outs → Outs → Type 0

@@ -1,17 +1,14 @@
 -- Lines of JSON (RFC 8259): each is one value, as the kit's definition of such reads it, and a newline.
 use Rattle.std.specs.Prelude.{◌≡◌, ℕ, ◌+◌, ◌≤◌, nat_lt, Bool, true, false, if◌then◌else◌, List, [], ◌∷◌, ◌++◌, Option, Some}
 use Rattle.std.specs.Prelude.{None, codes, decimal, drop, from_bits, length, take, option_map, option_and_then, slice_get}
-use Rattle.std.specs.{Fmt.signed_decimal, Str.is_utf8}
-use Rattle.std.specs.Float.{Float, Format, binary32, binary64, nan, inf, fin}
+use Rattle.std.specs.{Fmt.signed_decimal, Str.is_utf8, Float.Float, Float.Format, Float.binary32, Float.binary64, Float.nan, Float.inf, Float.fin, Float.Parse.parse_float}
 use Rattle.hex.specs.Hex.{encode_lower}
-use Rattle.json.specs.Json.{Json, null, boolean, number, string, object, Members, no_members, member}
-use Rattle.json.specs.{Print.print, Print.print_from, Tree.json_tokens, Tree.members_tokens}
-use Rattle.std.specs.Float.Parse.{parse_float}
+use Rattle.json.specs.{Json.Json, Json.null, Json.boolean, Json.number, Json.string, Json.object, Json.Members, Json.no_members, Json.member, Print.print, Print.print_from}
+use Rattle.json.specs.Tree.{json_tokens, members_tokens}
 use Rattle.ryu.specs.Plain.{IsLaidOutNumber}
 use Rattle.fb_bytes.specs.Word.{word}
 use Rattle.fb_schema.specs.Rows.{Rows}
-use Rattle.fb_rules.specs.Reasons.{reason_number, reason_text}
-use Rattle.fb_rules.specs.declared.{fault.Fault.Fault, fault.Reason.Reason, fault.Report.Report}
+use Rattle.fb_rules.specs.{Reasons.reason_number, Reasons.reason_text, declared.fault.Fault.Fault, declared.fault.Reason.Reason, declared.fault.Report.Report}
 use Rattle.fb_access.specs.Denotes.{Shown, nothing, no_element, other_member, truth, signed, unsigned, float, default_float, default_double, text, structure, vector, table, union}
 use Rattle.fb_access.specs.Location.{field_name}
 use Rattle.fb_run.specs.declared.spot.Spot.{Spot}

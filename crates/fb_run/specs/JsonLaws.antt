@@ -1,11 +1,10 @@
 -- What a reader of JSON gets of a line.
 use Rattle.std.specs.Prelude.{◌≡◌, ℕ, ◌<◌, ◌≤◌, ◌^◌, List, Option, Some, length, option_map, slice_index, to_bits, unsigned_abs, ⊤}
-use Rattle.std.specs.{Float.binary32, Float.binary64, List.AllByRecursion}
+use Rattle.std.specs.{Float.binary32, Float.binary64, List.AllByRecursion, Float.Parse.parse_float}
 use Rattle.json.specs.Json.{Json, Members, document, number}
-use Rattle.std.specs.Float.Parse.{parse_float}
 use Rattle.fb_bytes.specs.Word.{word}
 use Rattle.fb_schema.specs.Rows.{Rows}
-use Rattle.fb_rules.specs.declared.{fault.Fault.Fault, fault.Report.Report}
+use Rattle.fb_rules.specs.declared.fault.{Fault.Fault, Report.Report}
 use Rattle.fb_access.specs.Denotes.{Shown, default_float, default_double, signed, unsigned, vector, union}
 use Rattle.fb_run.specs.{Json.IsFloat, Json.IsValue, Json.IsValuesMember, Json.json_text, Json.line_json, Json.no_members_of, Json.yes_members, Spot.IsShort}
 use Rattle.fb_run.specs.declared.spot.Spot.{Spot}

@@ -3,12 +3,10 @@ use Rattle.std.specs.Prelude.{◌≡◌, ℕ, List, [], ◌∷◌, map, pos, cod
 use Rattle.std.specs.List.{AllByRecursion}
 use Rattle.json.specs.Json.{Json, no_members}
 use Rattle.fb_schema.specs.Rows.{Rows}
-use Rattle.fb_rules.specs.Samples.{short, field, table as table_row}
-use Rattle.fb_rules.specs.declared.{fault.Fault.Fault, fault.Reason.TheVariants.Misaligned, fault.Reason.TheVariants.NoTerminator}
-use Rattle.fb_rules.specs.declared.fault.Report.{Report}
+use Rattle.fb_rules.specs.{Samples.short, Samples.field, Samples.table as table_row, declared.fault.Fault.Fault, declared.fault.Reason.TheVariants.Misaligned}
+use Rattle.fb_rules.specs.declared.fault.{Reason.TheVariants.NoTerminator, Report.Report}
 use Rattle.fb_access.specs.Denotes.{Shown, float, default_float, default_double, signed, text}
-use Rattle.fb_run.specs.{Json.IsValue, Json.IsYes, Json.json_no, Json.json_text, Json.json_yes, Json.text_json, LineTests.of_each_kind}
-use Rattle.fb_run.specs.declared.spot.Spot.{Spot}
+use Rattle.fb_run.specs.{Json.IsValue, Json.IsYes, Json.json_no, Json.json_text, Json.json_yes, Json.text_json, LineTests.of_each_kind, declared.spot.Spot.Spot}
 
 -- one table, eight reads
 abbrev pub counts : Report

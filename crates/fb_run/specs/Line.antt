@@ -2,14 +2,12 @@
 use Rattle.std.specs.Prelude.{◌≡◌, ℕ, List, [], ◌++◌, map, Option, Some, None, Ok, Err, codes, decimal}
 use Rattle.json.specs.Json.{Members}
 use Rattle.fb_access.specs.Denotes.{Shown}
-use Rattle.fb_run.specs.{AnswerText.answers_text, AnswerText.label_text, Csv.IsRow, Job.IsVerdict, Job.Job, Job.Verdict, Job.buffer_in, Json.IsValuesMember, Json.IsYes, Json.begin_part}
-use Rattle.fb_run.specs.{Json.counts_part, Json.following, Json.json_no, Spot.Before, Spot.spot_of, Texts.Texts, Texts.silent, Texts.spoken, Texts.to_notes, Texts.to_out, Wanted.Wanted}
-use Rattle.fb_run.specs.declared.spot.Spot.{Spot}
-use Rattle.fb_run.specs.declared.{options.LineForm.LineForm, options.LineForm.TheVariants.Plain, options.LineForm.TheVariants.Json, options.Mode.Mode, options.Rejects.Rejects}
-use Rattle.fb_run.specs.declared.options.Rejects.TheVariants.{Dropped, Kept}
-use Rattle.fb_run.specs.declared.options.Mode.TheVariants.{Lines, BadLines, Filter, Csv}
-use Rattle.fb_rules.specs.declared.{fault.Fault.Fault, fault.Report.Report}
-use Rattle.fb_rules.specs.Reasons.{reason_text}
+use Rattle.fb_run.specs.{AnswerText.answers_text, AnswerText.label_text, Csv.IsRow, Job.IsVerdict, Job.Job, Job.Verdict, Job.buffer_in, Json.IsValuesMember, Json.IsYes}
+use Rattle.fb_run.specs.{Json.begin_part, Json.counts_part, Json.following, Json.json_no, Spot.Before, Spot.spot_of, Texts.Texts, Texts.silent, Texts.spoken, Texts.to_notes}
+use Rattle.fb_run.specs.{Texts.to_out, Wanted.Wanted, declared.spot.Spot.Spot, declared.options.LineForm.LineForm, declared.options.LineForm.TheVariants.Plain}
+use Rattle.fb_run.specs.declared.options.{LineForm.TheVariants.Json, Mode.Mode, Rejects.Rejects, Rejects.TheVariants.Dropped, Rejects.TheVariants.Kept, Mode.TheVariants.Lines}
+use Rattle.fb_run.specs.declared.options.Mode.TheVariants.{BadLines, Filter, Csv}
+use Rattle.fb_rules.specs.{declared.fault.Fault.Fault, declared.fault.Report.Report, Reasons.reason_text}
 
 -- a field's number, where there is one
 abbrev pub field_text : Option ℕ → List ℕ
@@ -64,10 +62,10 @@ IsLineIn Json job spot verdict line = IsJsonLine job spot verdict line
 -- what is written of a message: the row of a good one, where rows are asked for, and else its line
 abbrev pub IsLineBy : Mode → Job → Spot → Verdict → List ℕ → Type 0
 IsLineBy Csv job spot (Ok found) row = IsRow job.label found.answers row
-IsLineBy _ job spot verdict line = IsLineIn job.form job spot verdict line
+IsLineBy _ job spot verdict line = IsLineIn job.terms.form job spot verdict line
 
 abbrev pub IsLine : Job → Spot → Verdict → List ℕ → Type 0
-IsLine job = IsLineBy job.mode job
+IsLine job = IsLineBy job.terms.mode job
 
 -- what the line of a yes has behind its counts
 abbrev pub IsRest : LineForm → List (List ℕ) → List Shown → List ℕ → Type 0
@@ -109,4 +107,4 @@ ToldBy mode rejects IsItsLine message verdict told = SaidBy mode IsItsLine messa
 -- what is told of the message behind so much, by the verdict on the buffer in it
 pub record IsTold (job : Job) (before : Before) (bytes : List ℕ) (verdict : Verdict) (told : Texts) : Type 0 where
   pub verdict_is : IsVerdict job (buffer_in job bytes) verdict
-  pub text : ToldBy job.mode job.rejects (IsLine job (spot_of before bytes) verdict) bytes verdict told
+  pub text : ToldBy job.terms.mode job.rejects (IsLine job (spot_of before bytes) verdict) bytes verdict told

@@ -1,8 +1,7 @@
 -- Lines of verdicts by example.
 use Rattle.std.specs.Prelude.{◌≡◌, ℕ, pos, negsuc, true, false, List, [], ◌∷◌, map, codes, Some, None, Ok, Err}
 use Rattle.fb_access.specs.Denotes.{Shown, nothing, no_element, other_member, truth, signed, unsigned, float, default_float, default_double, text, structure, vector, table, union}
-use Rattle.fb_rules.specs.declared.{fault.Fault.Fault, fault.Reason.TheVariants.Misaligned, fault.Reason.TheVariants.NoTerminator}
-use Rattle.fb_rules.specs.declared.fault.Report.{Report}
+use Rattle.fb_rules.specs.declared.fault.{Fault.Fault, Reason.TheVariants.Misaligned, Reason.TheVariants.NoTerminator, Report.Report}
 use Rattle.fb_run.specs.{AnswerText.answer_text, AnswerText.label_text, Line.verdict_line}
 
 -- three tables, two open at once, ten reads

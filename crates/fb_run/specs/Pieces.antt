@@ -3,10 +3,9 @@ use Rattle.std.specs.Prelude.{◌≡◌, ℕ, ◌+◌, ◌<◌, ◌≤◌, ◌^�
 use Rattle.fb_bytes.specs.{Framing.Framing, Messages.declared, Messages.IsOversize, Messages.IsPartial, Messages.Splits}
 use Rattle.fb_bytes.specs.declared.ends.Sink as sink
 use Rattle.fb_bytes.specs.declared.stream_fault.StreamFault.TheVariants as stream
-use Rattle.fb_run.specs.{AllTold.AreTold, Ends.Outs, Job.Beside, Job.HasRoom, Job.Job, Job.cut_of, Puts.AreCut, Puts.AreOpen, Puts.AreSound, Puts.IsUnused, Puts.PutsTold, Puts.Queues, Puts.all_unused}
-use Rattle.fb_run.specs.{Puts.queues_of, Spot.IsFull, Spot.at_first, Spot.past_all, Stream.TellsMore, Sums.count_of, Sums.no_tally, Texts.Texts}
-use Rattle.fb_run.specs.declared.{fault.RunFault.RunFault, stream.Carried.Carried, tally.Tally.Tally}
-use Rattle.fb_run.specs.declared.fault.RunFault.TheVariants.{WriteFault, NoteFault, RejectFault, Stream, OutOfMemory}
+use Rattle.fb_run.specs.{AllTold.AreTold, Ends.Outs, Job.Beside, Job.HasRoom, Job.Job, Job.cut_of, Puts.AreCut, Puts.AreOpen, Puts.AreSound, Puts.IsUnused, Puts.PutsTold}
+use Rattle.fb_run.specs.{Puts.Queues, Puts.all_unused, Puts.queues_of, Spot.IsFull, Spot.at_first, Spot.past_all, Stream.TellsMore, Sums.count_of, Sums.no_tally, Texts.Texts}
+use Rattle.fb_run.specs.declared.{fault.RunFault.RunFault, stream.Carried.Carried, tally.Tally.Tally, fault.RunFault.TheVariants.Stream, fault.RunFault.TheVariants.OutOfMemory}
 
 -- what a run carries: what was counted, its framer and its room, and what was put for the writer, the notes and the rejects
 pub record Carry : Type 0 where
@@ -53,14 +52,15 @@ pub record Gathers (job : Job) (first : Outs) (bytes : List ℕ) (tally : Tally)
   pub told : AreTold job (at_first job) done text tally
   pub puts : PutsTold text (all_unused first) queues
 
--- why a run came to rest in them
-abbrev pub Why : Job → Tally → List (List ℕ) → List ℕ → Queues → RunFault → Type 0
-Why job tally left rest queues (Stream (stream.Oversize number)) = TellsMore job tally × AreOpen queues × (left ≡ []) × IsOversize (cut_of job) rest × (number ≡ declared job.order rest)
-Why job tally left rest queues OutOfMemory = AreOpen queues
-Why job tally left rest queues fault = AreCut queues fault
+-- why a run came to rest in them, where no write failed
+abbrev pub Why : Job → Tally → List (List ℕ) → List ℕ → RunFault → Type 0
+Why job tally left rest (Stream (stream.Oversize number)) = TellsMore job tally × (left ≡ []) × IsOversize (cut_of job) rest × (number ≡ declared (cut_of job).order rest)
+Why job tally left rest OutOfMemory = Unit {0}
+Why job tally left rest fault = ⊥
 
 abbrev pub Halts : Job → Outs → List ℕ → Tally → Queues → RunFault → Type 0
-Halts job first bytes tally queues fault = (gathers : Gathers job first bytes tally queues) × Why job tally gathers.left gathers.rest queues fault
+Halts job first bytes tally queues fault =
+    (gathers : Gathers job first bytes tally queues) × (AreCut queues fault ⊎ (AreOpen queues × Why job tally gathers.left gathers.rest fault))
 
 -- whatever was read before, with this piece more it stands so, or comes to rest
 abbrev pub Onward : Job → Carry → List ℕ → Carry → Type 0
@@ -108,12 +108,9 @@ PassesAllBy job piece before after (Err fault) = Stops job before piece after fa
 abbrev pub AreEmpty : Queues → Type 0
 AreEmpty queues = (queues.out.waits ≡ []) × (queues.notes.waits ≡ []) × (queues.rejects.waits ≡ [])
 
--- where a write failed, it is told what was written; else all that was put is written
+-- a write failed as the fault says, or all that was put is written
 abbrev pub AreSettled : Queues → RunFault → Type 0
-AreSettled queues (WriteFault written) = Unit {0}
-AreSettled queues (NoteFault written) = Unit {0}
-AreSettled queues (RejectFault written) = Unit {0}
-AreSettled queues fault = AreEmpty queues
+AreSettled queues fault = AreCut queues fault ⊎ AreEmpty queues
 
 -- the same, and what is told in it is written
 abbrev pub WritesBy : Job → List ℕ → Carry → Carry → Result (Unit {0}) RunFault → Type 0

@@ -23,7 +23,7 @@ pub record IsStreamPrompt (job : Job) (before now : Ends) : Type 0 where
 -- over one bare input: bytes within the limit were read behind those that are left out, and nothing was written
 abbrev pub IsBarePrompt : Job → Ends → Ends → Type 0
 IsBarePrompt job before now =
-    (bytes : List ℕ) × Consumes before.reader.left now.reader.left bytes × (length (checked_in job bytes) ≤ job.limit) × Unwritten before.outs now.outs
+    (bytes : List ℕ) × Consumes before.reader.left now.reader.left bytes × (length (checked_in job bytes) ≤ job.terms.max_bytes) × Unwritten before.outs now.outs
 
 abbrev pub IsPromptFrom : Bool → Job → Ends → Ends → Type 0
 IsPromptFrom true job = IsBarePrompt job
@@ -31,4 +31,4 @@ IsPromptFrom false job = IsStreamPrompt job
 
 -- the one of both that the job says
 abbrev pub IsPrompt : Job → Ends → Ends → Type 0
-IsPrompt job = IsPromptFrom job.bare job
+IsPrompt job = IsPromptFrom job.terms.bare job

@@ -28,4 +28,4 @@ joined messages = flat_map (λ (message : List ℕ). message) messages
 abbrev pub RejectsPart : Type 0
 RejectsPart = (job : Job) (before : Before) (messages : List (List ℕ)) (text : Texts) (tally : Tally) → job.rejects ≡ Kept → AreTold job before messages text tally
     → (good : List (List ℕ)) × (bad : List (List ℕ)) × ArePartedInto job messages good bad × (text.rejects ≡ joined bad)
-    × (job.mode ≡ Filter → text.out ≡ joined good) × (length good ≡ tally.yes) × (length bad ≡ tally.no)
+    × (job.terms.mode ≡ Filter → text.out ≡ joined good) × (length good ≡ tally.yes) × (length bad ≡ tally.no)

@@ -20,7 +20,7 @@ IsRunFrom false = IsStreamRun
 
 -- what was read, written and noted by a run that ended so, and came to these numbers by then
 abbrev pub IsRunBeside : Job → Ends → Ends → Tally → End → Type 0
-IsRunBeside job = IsRunFrom job.bare job
+IsRunBeside job = IsRunFrom job.terms.bare job
 
 -- the answer of a run that ended so and came to these numbers
 abbrev pub answer_by : Tally → End → Result Tally RunFault

@@ -4,8 +4,7 @@ use Rattle.std.specs.Io.KnownBytes.{Consumes}
 use Rattle.fb_bytes.specs.Messages.{declared, IsPartial, IsOversize, Splits}
 use Rattle.fb_bytes.specs.declared.stream_fault.StreamFault.TheVariants as stream
 use Rattle.fb_run.specs.{Ends.Ends, Ends.Reader, Ends.Takes, Job.Job, Job.checked_in, Job.cut_of, AllTold.AreTold, Spot.IsDue, Spot.IsFull, Spot.at_first, Spot.past_all}
-use Rattle.fb_run.specs.Texts.{IsCounted, Texts, followed, to_rejects}
-use Rattle.fb_run.specs.declared.{tally.Tally.Tally, fault.RunFault.RunFault}
+use Rattle.fb_run.specs.{Texts.IsCounted, Texts.Texts, Texts.followed, Texts.to_rejects, declared.tally.Tally.Tally, declared.fault.RunFault.RunFault}
 use Rattle.fb_run.specs.declared.fault.RunFault.TheVariants.{ReadFault, WriteFault, NoteFault, RejectFault, Stream, TooManyTurns, OutOfMemory, BareTooLong, SkipPastEnd}
 
 -- the text is what is told of the first messages of these bytes, behind those that are left out, and they come to this
@@ -24,7 +23,7 @@ abbrev pub WhyStream : Job → List ℕ → List (List ℕ) → List ℕ → Tex
 WhyStream job bytes messages rest text tally ReadFault = TellsMore job tally × IsPartial (cut_of job) rest × AreTold job (at_first job) messages text tally
 WhyStream job bytes messages rest text tally TooManyTurns = TellsMore job tally × IsPartial (cut_of job) rest × AreTold job (at_first job) messages text tally
 WhyStream job bytes messages rest text tally (Stream (stream.Oversize number)) =
-    TellsMore job tally × IsOversize (cut_of job) rest × (number ≡ declared job.order rest) × AreTold job (at_first job) messages text tally
+    TellsMore job tally × IsOversize (cut_of job) rest × (number ≡ declared (cut_of job).order rest) × AreTold job (at_first job) messages text tally
 WhyStream job bytes messages rest text tally (Stream (stream.Truncated held)) =
     TellsMore job tally × IsPartial (cut_of job) rest × (held ≡ length rest) × (0 < held) × AreTold job (at_first job) messages text tally
 WhyStream job bytes messages rest text tally (Stream fault) = ⊥
@@ -32,7 +31,7 @@ WhyStream job bytes messages rest text tally OutOfMemory = TellsSome job bytes t
 WhyStream job bytes messages rest text tally (WriteFault written) = IsCounted (length text.out) written × ((more : Texts) × TellsSome job bytes (followed text more) tally)
 WhyStream job bytes messages rest text tally (NoteFault written) = IsCounted (length text.notes) written × ((more : Texts) × (more.out ≡ []) × TellsSome job bytes (followed text more) tally)
 WhyStream job bytes messages rest text tally (RejectFault written) = IsCounted (length text.rejects) written × ((more : List ℕ) × TellsSome job bytes (followed text (to_rejects more)) tally)
-WhyStream job bytes messages rest text tally (SkipPastEnd skip) = (skip ≡ job.begin) × (length bytes < skip) × AreTold job (at_first job) messages text tally
+WhyStream job bytes messages rest text tally (SkipPastEnd skip) = (skip ≡ job.terms.skip) × (length bytes < skip) × AreTold job (at_first job) messages text tally
 WhyStream job bytes messages rest text tally (BareTooLong most) = ⊥
 
 -- a run over these bytes came to rest so
@@ -43,7 +42,7 @@ Rests job bytes text tally fault =
 -- the input ended, behind the bytes that are left out, with a message: none of these messages and no rest is left
 pub record IsEnded (job : Job) (reader : Reader) (bytes : List ℕ) (left : List (List ℕ)) (rest : List ℕ) : Type 0 where
   pub ended : reader.ended ≡ true
-  pub begun : job.begin ≤ length bytes
+  pub begun : job.terms.skip ≤ length bytes
   pub none : left ≡ []
   pub whole : rest ≡ []
 

@@ -1,9 +1,8 @@
 -- What messages come to by their verdicts, and the line that tells it.
 use Rattle.std.specs.Prelude.{◌≡◌, ℕ, ◌+◌, ◌-◌, ◌*◌, ◌≤◌, ◌^◌, ◌==◌, min, if◌then◌else◌, List, [], ◌∷◌, ◌++◌, All, Ok, Err, length, replicate, slice_index, slice_set, codes, decimal}
-use Rattle.fb_rules.specs.Reasons.{reason_number, reason_count}
-use Rattle.fb_rules.specs.declared.fault.Reason.{Reason}
-use Rattle.fb_run.specs.Job.{Verdict}
-use Rattle.fb_run.specs.declared.{options.LineForm.LineForm, options.LineForm.TheVariants.Plain, options.LineForm.TheVariants.Json, tally.Tally.Tally}
+use Rattle.fb_rules.specs.{Reasons.reason_number, Reasons.reason_count, declared.fault.Reason.Reason}
+use Rattle.fb_run.specs.{Job.Verdict, declared.options.LineForm.LineForm, declared.options.LineForm.TheVariants.Plain, declared.options.LineForm.TheVariants.Json}
+use Rattle.fb_run.specs.declared.tally.Tally.{Tally}
 
 -- the place of a reason among the counts of all reasons, that of V1 first
 abbrev pub count_place : Reason → ℕ

@@ -2,14 +2,12 @@
 
 ghost use Rattle.std.specs.Prelude.{IfOk, IfErr, IfSome, None, OnOk, IsTrue, ◌≡◌, ◌++◌, ◌<◌, ◌≤◌, ◌^◌, length, map, option_map, take, vec_items};
 ghost use Rattle.fb_access.specs.Denotes.{shown};
-ghost use Rattle.fb_run.specs.declared.options.Places.TheVariants.{Words};
-ghost use Rattle.fb_run.specs.declared.checker.Course.TheVariants.{Brief, BriefStrictly};
-ghost use Rattle.fb_run.specs.Job.{AreAnswers, HasRoom, IsChecked, IsVerdict, PathsFit, Serves, Verdict, VerifiesBy, asked_of, brief_verdict, buffer_in, course_by};
-ghost use Rattle.fb_run.specs.Job.{course_of, cut_of, is_brief, job_of, order_of, place_told, skip_of, start_of, verdict_beside, verdict_of};
+ghost use Rattle.fb_run.specs.declared.{options.Places.TheVariants.Words, checker.Course.TheVariants.Brief, checker.Course.TheVariants.BriefStrictly};
+ghost use Rattle.fb_run.specs.Job.{AreAnswers, HasRoom, IsChecked, IsVerdict, PathsFit, Serves, Verdict, VerifiesBy, asked_of, brief_verdict, buffer_in, course_by, course_of};
+ghost use Rattle.fb_run.specs.{Job.cut_of, Job.is_brief, Job.job_of, Job.order_of, Job.place_told, Job.skip_of, Job.start_of, Job.verdict_beside, Job.verdict_of, Line.front_in};
+ghost use Rattle.fb_run.specs.{Spot.IsDue, Spot.at_first, declared.options.LineForm.TheVariants.Json};
 ghost use Rattle.fb_strict.specs.AsAsked.{StopsBy, StopsAlongBy};
 ghost use Rattle.fb_schema.specs.Rows.{Rows, is_table};
-ghost use Rattle.fb_run.specs.{Line.front_in, Spot.IsDue, Spot.at_first};
-ghost use Rattle.fb_run.specs.declared.options.LineForm.TheVariants.{Json};
 
 use crate::answers::{Answers, MOST_PATHS};
 use crate::json_line::{put_no, put_yes};
@@ -123,51 +121,23 @@ impl<'s, 'n, 'o> Checker<'s, 'n, 'o> {
         }
     }
 
-    /// The most bytes of a message, prefix included, or of a bare input.
-    pub fn limit(&self) -> u32
-        ensures value { result ≡ self.now.limit }
-        ensures least { 8 ≤ self.now.limit }
-        ensures most { self.now.limit < 2 ^ 31 }
+    /// What is asked of every run alike. The first message behind the bytes that are left out is told.
+    pub fn terms(&self) -> &Terms
+        ensures value { result.now ≡ self.now.terms }
+        ensures least { 8 ≤ self.now.terms.max_bytes }
+        ensures most { self.now.terms.max_bytes < 2 ^ 31 }
+        ensures due { IsDue self.now (at_first self.now) }
     {
-        self.options.terms.max_bytes
+        &self.options.terms
     }
 
     /// How a stream is cut into messages.
     pub fn cut(&self) -> Cut
         ensures value { result ≡ cut_of self.now }
-        ensures least { 8 ≤ self.now.limit }
-        ensures most { self.now.limit < 2 ^ 31 }
+        ensures least { 8 ≤ self.now.terms.max_bytes }
+        ensures most { self.now.terms.max_bytes < 2 ^ 31 }
     {
         self.cut
-    }
-
-    /// How many bytes at the beginning of the input are left out. The first message behind them is told.
-    pub fn begin(&self) -> u64
-        ensures value { result ≡ self.now.begin }
-        ensures due { IsDue self.now (at_first self.now) }
-    {
-        self.options.terms.skip
-    }
-
-    /// How many messages are told at most.
-    pub fn most_messages(&self) -> u64
-        ensures { result ≡ self.now.most_messages }
-    {
-        self.options.terms.most_messages
-    }
-
-    /// The number of bad messages behind the last of which none is told.
-    pub fn most_bad(&self) -> u64
-        ensures { result ≡ self.now.most_bad }
-    {
-        self.options.terms.most_bad
-    }
-
-    /// What is told of the buffers.
-    pub fn mode(&self) -> Mode
-        ensures { result ≡ self.now.mode }
-    {
-        self.options.terms.mode
     }
 
     /// Whether bad buffers are kept.
@@ -175,13 +145,6 @@ impl<'s, 'n, 'o> Checker<'s, 'n, 'o> {
         ensures { result ≡ self.now.rejects }
     {
         self.options.rejects
-    }
-
-    /// How lines are written.
-    pub fn form(&self) -> LineForm
-        ensures { result ≡ self.now.form }
-    {
-        self.options.terms.form
     }
 
     /// The name of the input, where lines and rows tell it.
@@ -238,7 +201,7 @@ impl<'s, 'n, 'o> Checker<'s, 'n, 'o> {
         requires short { length message.now < 2 ^ 31 }
         ensures verdict { IfOk result (λ verdict. IsVerdict self.now (buffer_in self.now message.now) (verdict_beside self.now room.new.text verdict)) }
         ensures refused { IfErr result (λ _. (verdict : Verdict) × IsVerdict self.now (buffer_in self.now message.now) verdict) }
-        ensures asked { IfErr result (λ _. self.now.names ≡ Words) }
+        ensures asked { IfErr result (λ _. self.now.terms.names ≡ Words) }
         ensures room { HasRoom self.now room.new }
     {
         match self.verified(room, self.metered(message))? {
@@ -301,13 +264,6 @@ impl<'s, 'n, 'o> Checker<'s, 'n, 'o> {
             Ok(checked) => Ok(checked.report),
             Err(fault) => Err(fault),
         }
-    }
-
-    /// Whether the input is one bare buffer.
-    pub fn is_bare(&self) -> bool
-        ensures { result ≡ self.now.bare }
-    {
-        self.options.terms.bare
     }
 
     /// The buffer in a message, of which nothing was read yet: all of it, or what stands behind a prefix that is no part
@@ -422,9 +378,9 @@ impl<'s, 'n, 'o> Checker<'s, 'n, 'o> {
         links: &mut [Link],
     ) -> Result<Checked<'b, 's, 'n>, Located>
         requires fresh { meter.count ≡ 0 }
-        requires scratch { self.now.limits.depth ≤ scratch.old }
-        requires pass { IfSome self.now.plan (λ _. self.now.limits.depth ≤ pass.old) }
-        requires links { self.now.limits.depth ≤ length links.old }
+        requires scratch { self.now.terms.limits.depth ≤ scratch.old }
+        requires pass { IfSome self.now.plan (λ _. self.now.terms.limits.depth ≤ pass.old) }
+        requires links { self.now.terms.limits.depth ≤ length links.old }
         ensures yes { IfOk result (IsChecked self.now meter.entry.bytes) }
         ensures no { IfErr result (λ l. StopsBy self.now.plan (asked_of self.now meter.entry.bytes) meter.entry.bytes l.fault) }
         ensures along { IfErr result (λ l. StopsAlongBy self.now.plan (asked_of self.now meter.entry.bytes) meter.entry.bytes l.fault (take l.links links.new)) }

@@ -92,15 +92,11 @@ impl Counter {
         requires short { length message.now < 2 ^ 31 }
         ensures { self.new ≡ tally_with message.now (verdict_of verdict.now) self.old }
     {
-        let tally = &mut self.tally;
-        tally.bytes += message.len() as u128;
         match verdict {
-            Ok(found) => {
-                tally.yes += 1;
-                tally.tables += u128::from(found.report.tables);
-                tally.reads = tally.reads.saturating_add(found.report.reads);
-            }
+            Ok(found) => self.count_yes(message, &found.report),
             Err(Wrong { fault, .. }) => {
+                let tally = &mut self.tally;
+                tally.bytes += message.len() as u128;
                 tally.no += 1;
                 tally.reasons[count_place(fault.reason)] += 1;
                 tally.reads = tally.reads.saturating_add(fault.reads);

@@ -29,6 +29,7 @@ pub fn put_row<A: Allocator, K: Sink>(
 }
 
 /// Puts the name of an input and a comma, where it has one.
+#[tactic(auto, using(crate::proofs::CsvLemmas::name_put))]
 fn put_name<A: Allocator, K: Sink>(out: &mut Pending<A>, sink: &mut K, label: &Option<Vec<u8>>)
     ensures { Puts (name_field (option_map vec_items label.now)) (queue_of K.Sink out.old sink.old) (queue_of K.Sink out.new sink.new) }
 {
@@ -127,12 +128,7 @@ fn put_text<A: Allocator>(text: &mut Vec<u8, A>, path: &[u8]) -> Result<(), Allo
 fn has_special(text: &[u8]) -> bool
     ensures { result ≡ list_any is_special text.now }
 {
-    for byte in text {
-        if is_special(*byte) {
-            return true;
-        }
-    }
-    false
+    text.iter().any(|byte| is_special(*byte))
 }
 
 /// Whether it is one.

@@ -1,8 +1,7 @@
 //! Why a run comes to rest before its end, and the program's exit status.
 
-ghost use Rattle.std.specs.Prelude.{◌≡◌, ◌≤◌, ◌++◌, codes, decimal, length};
-ghost use Rattle.fb_run.specs.{Faults.feed_fault, Faults.status_of, FaultText.fault_text, FaultText.stream_text};
-ghost use Rattle.fb_run.specs.declared.fault.RunFault.TheVariants.{OutOfMemory};
+ghost use Rattle.std.specs.Prelude.{◌≡◌, ◌+◌, ◌≤◌, ◌++◌, decimal, length};
+ghost use Rattle.fb_run.specs.{Faults.feed_fault, Faults.status_of, FaultText.fault_text, FaultText.stream_text, declared.fault.RunFault.TheVariants.OutOfMemory};
 
 use crate::line::Line;
 use crate::tally::Tally;
@@ -61,79 +60,58 @@ impl RunFault {
     {
         match self {
             RunFault::ReadFault => Line::of("read failed"),
-            RunFault::WriteFault { written } => counted("write failed after ", *written),
+            RunFault::WriteFault { written } => {
+                numbered("write failed after ", *written, " bytes")
+            }
             RunFault::NoteFault { written } => {
-                counted("write to standard error failed after ", *written)
+                numbered("write to standard error failed after ", *written, " bytes")
             }
             RunFault::RejectFault { written } => {
-                counted("write of rejects failed after ", *written)
+                numbered("write of rejects failed after ", *written, " bytes")
             }
-            RunFault::Stream(cause) => streamed(cause),
+            RunFault::Stream(cause) => {
+                let mut line = stream_text(cause);
+                line.put_text("stream: ");
+                line
+            }
             RunFault::TooManyTurns => Line::of("too many reads"),
             RunFault::OutOfMemory => Line::of("out of memory"),
-            RunFault::BareTooLong { limit } => counted("input longer than ", u128::from(*limit)),
-            RunFault::SkipPastEnd { skip } => unskipped(*skip),
+            RunFault::BareTooLong { limit } => {
+                numbered("input longer than ", u128::from(*limit), " bytes")
+            }
+            RunFault::SkipPastEnd { skip } => numbered(
+                "the input ends before its first ",
+                u128::from(*skip),
+                " bytes are skipped",
+            ),
         }
     }
-}
-
-/// So many bytes behind a text.
-fn counted(before: &str, count: u128) -> Line
-    requires { length before.now ≤ 40 }
-    ensures text { result ≡ before.now ++ decimal count ++ codes " bytes" }
-    ensures short { length result ≤ 100 }
-{
-    let mut line = Line::of(" bytes");
-    line.put_wide(count);
-    line.put_text(before);
-    line
-}
-
-/// That an input has fewer bytes than are left out.
-fn unskipped(skip: u64) -> Line
-    ensures text { result ≡ codes "the input ends before its first " ++ decimal skip ++ codes " bytes are skipped" }
-    ensures short { length result ≤ 100 }
-{
-    let mut line = Line::of(" bytes are skipped");
-    line.put_number(skip);
-    line.put_text("the input ends before its first ");
-    line
-}
-
-/// What is wrong with a stream, with what it is of.
-fn streamed(cause: &StreamFault) -> Line
-    ensures text { result ≡ codes "stream: " ++ stream_text cause.now }
-    ensures short { length result ≤ 100 }
-{
-    let mut line = stream_text(cause);
-    line.put_text("stream: ");
-    line
 }
 
 /// The text of what is wrong with a stream.
 fn stream_text(cause: &StreamFault) -> Line
     ensures text { result ≡ stream_text cause.now }
-    ensures short { length result ≤ 50 }
+    ensures short { length result ≤ 70 }
 {
     match cause {
-        StreamFault::Oversize { declared } => numbered(
-            "S1 Oversize declared=",
-            u64::from(*declared),
-        ),
-        StreamFault::Truncated { held } => numbered("S2 Truncated held=", *held),
+        StreamFault::Oversize { declared } => {
+            numbered("S1 Oversize declared=", u128::from(*declared), "")
+        }
+        StreamFault::Truncated { held } => numbered("S2 Truncated held=", u128::from(*held), ""),
         StreamFault::OutOfMemory => Line::of("S3 OutOfMemory"),
         StreamFault::Failed => Line::of("S4 Failed"),
     }
 }
 
-/// A number behind a text.
-fn numbered(before: &str, number: u64) -> Line
-    requires { length before.now ≤ 30 }
-    ensures text { result ≡ before.now ++ decimal number }
-    ensures short { length result ≤ 50 }
+/// A number between two texts.
+fn numbered(before: &str, number: u128, behind: &str) -> Line
+    requires before { length before.now ≤ 40 }
+    requires behind { length behind.now ≤ 20 }
+    ensures text { result ≡ before.now ++ (decimal number ++ behind.now) }
+    ensures short { length result ≤ length before.now + 40 + length behind.now }
 {
-    let mut line = Line::new();
-    line.put_number(number);
+    let mut line = Line::of(behind);
+    line.put_wide(number);
     line.put_text(before);
     line
 }

@@ -2,10 +2,9 @@
 //! theorems.
 
 ghost use Rattle.fb_schema.specs.Rows.{Rows};
-ghost use Rattle.fb_run.specs.{FilterLaws.PassesAgain, JobTests.Buffers, JsonLaws.DefaultsReadBack, JsonLaws.FloatsReadBack, JsonLaws.NoReadsBack, JsonLaws.YesReadsBack, JsonSums.Summaries};
-ghost use Rattle.fb_run.specs.{JsonTests.JsonLines, JsonTests.JsonTexts, JsonTests.JsonValues, LineTests.Lines, LineTests.Names, LineTests.Texts, LineTests.Values, RejectLaws.RejectsPart};
-ghost use Rattle.fb_run.specs.StrictLaws.{StrictIsOk};
-ghost use Rattle.fb_run.specs.declared.options.Options.{Options};
+ghost use Rattle.fb_run.specs.{FilterLaws.PassesAgain, JobTests.Buffers, JsonLaws.DefaultsReadBack, JsonLaws.FloatsReadBack, JsonLaws.NoReadsBack, JsonLaws.YesReadsBack};
+ghost use Rattle.fb_run.specs.{JsonSums.Summaries, JsonTests.JsonLines, JsonTests.JsonTexts, JsonTests.JsonValues, LineTests.Lines, LineTests.Names, LineTests.Texts};
+ghost use Rattle.fb_run.specs.{LineTests.Values, RejectLaws.RejectsPart, StrictLaws.StrictIsOk, declared.options.Options.Options};
 
 /// The lines of some verdicts, how values of each kind and names are written, and texts at the bounds of what is
 /// escaped.

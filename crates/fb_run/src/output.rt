@@ -1,9 +1,9 @@
 //! What a run tells: counted, and put behind what waits to be written.
 
 ghost use Rattle.std.specs.Prelude.{Err, Ok, OnOk, OnErr, IsTrue, ◌≡◌, ◌+◌, ◌<◌, ◌^◌, ◌++◌, [], false, length};
-ghost use Rattle.fb_run.specs.{AnswerText.label_text, Ends.outs_of, Job.HasRoom, Job.brief_verdict, Job.is_brief, Job.verdict_of, Line.IsLine, Line.IsLineIn, Line.front_in, Line.rejected};
-ghost use Rattle.fb_run.specs.{Line.verdict_line, Spot.HasDue, Spot.IsFull, Spot.past_all, Spot.spot_of, Sums.count_of, Sums.no_tally, Sums.tally_with, Texts.silent, Texts.to_rejects};
-ghost use Rattle.fb_run.specs.Puts.{AddsBy, AddsOr, AreOpen, AreSo, AreSound, IsUnused, PutsAll, PutsSome, PutsTold, Says, Tells, queue_of, queues_of};
+ghost use Rattle.fb_run.specs.{AnswerText.label_text, Ends.outs_of, Job.HasRoom, Job.IsVerdict, Job.brief_verdict, Job.buffer_in, Job.is_brief, Job.verdict_of, Line.IsLine, Line.front_in, Line.rejected};
+ghost use Rattle.fb_run.specs.{Spot.HasDue, Spot.IsFull, Spot.past_all, Sums.count_of, Sums.no_tally, Texts.silent, Texts.to_rejects};
+ghost use Rattle.fb_run.specs.Puts.{AddsBy, AreOpen, AreSo, AreSound, IsUnused, PutsAll, PutsTold, Says, queue_of, queues_of};
 ghost use Rattle.fb_run.specs.declared.options.Rejects.{Rejects};
 
 use crate::checker::{Checker, Course, Found, Wrong};
@@ -17,7 +17,7 @@ use crate::spot::Spot;
 use crate::tally::Tally;
 use crate::value_text::put_words;
 use crate::values::put_values;
-use crate::writing::{MOST_WAITING, Pending};
+use crate::writing::{MOST_WAITING, Pending, hold};
 use fb_bytes::Sink;
 use fb_verify::{Fault, Report};
 use std::alloc::{AllocError, Allocator};
@@ -75,21 +75,11 @@ impl<A: Allocator> Output<A> {
         requires unfailed { AreOpen (queues_of K.Sink N.Sink R.Sink self.old writer.old notes.old rejects.old) }
         ensures told { AddsBy checker.now (past_all checker.now self.old.counter) message.now (queues_of K.Sink N.Sink R.Sink self.old writer.old notes.old rejects.old)
             (queues_of K.Sink N.Sink R.Sink self.new writer.new notes.new rejects.new) self.old.counter self.new.counter result }
-        ensures one { OnOk result (count_of self.new.counter ≡ count_of self.old.counter + 1) }
         ensures room { HasRoom checker.now room.new }
     {
         if let Course::Brief = checker.course() {
-            return match checker.report(room, &mut checker.metered(message)) {
-                Ok(report) => self.add_yes(
-                    checker.mode(),
-                    message,
-                    &report,
-                    writer,
-                    notes,
-                    rejects,
-                ),
-                Err(fault) => self.add_no(checker, message, fault, writer, notes, rejects),
-            };
+            let report = checker.report(room, &mut checker.metered(message));
+            return self.add_briefly(checker, message, report, writer, notes, rejects);
         }
         self.add_otherwise(checker, room, message, writer, notes, rejects)
     }
@@ -111,58 +101,52 @@ impl<A: Allocator> Output<A> {
         requires unfailed { AreOpen (queues_of K.Sink N.Sink R.Sink self.old writer.old notes.old rejects.old) }
         ensures told { AddsBy checker.now (past_all checker.now self.old.counter) message.now (queues_of K.Sink N.Sink R.Sink self.old writer.old notes.old rejects.old)
             (queues_of K.Sink N.Sink R.Sink self.new writer.new notes.new rejects.new) self.old.counter self.new.counter result }
-        ensures one { OnOk result (count_of self.new.counter ≡ count_of self.old.counter + 1) }
         ensures room { HasRoom checker.now room.new }
     {
         if let Course::BriefStrictly = checker.course() {
-            return match checker.report_strictly(room, checker.metered(message)) {
-                Ok(report) => self.add_yes(
-                    checker.mode(),
-                    message,
-                    &report,
-                    writer,
-                    notes,
-                    rejects,
-                ),
-                Err(fault) => self.add_no(checker, message, fault, writer, notes, rejects),
-            };
+            let report = checker.report_strictly(room, checker.metered(message));
+            return self.add_briefly(checker, message, report, writer, notes, rejects);
         }
         let verdict = checker.verdict(room, message)?;
         let (verdict, begin) = checker.told(room, verdict);
-        let spot = self.counter.spot(checker.begin(), message);
+        let spot = self.counter.spot(checker.terms().skip, message);
         self.say(checker, begin, &spot, message, &verdict, writer)?;
         self.counter.count(message, &verdict);
         self.keep(checker.rejects(), message, &verdict, writer, notes, rejects)
     }
 
-    /// Adds what the mode tells of the next message with this report, where no more is asked, and counts it.
+    /// Adds what is told of the next message with this report, or this fault, where no more is asked, and counts it.
     #[inline(always)]
-    fn add_yes<K: Sink, N: Sink, R: Sink>(
+    fn add_briefly<K: Sink, N: Sink, R: Sink>(
         &mut self,
-        mode: Mode,
+        checker: &Checker<'_, '_, '_>,
         message: &[u8],
-        report: &Report,
+        report: Result<Report, Fault>,
         writer: &mut K,
         notes: &mut N,
         rejects: &mut R,
     ) -> Result<(), RunFault>
+        requires brief { IsTrue (is_brief checker.now) }
+        requires verdict { IsVerdict checker.now (buffer_in checker.now message.now) (brief_verdict report) }
         requires few { count_of self.old.counter < 2 ^ 63 }
         requires short { length message.now < 2 ^ 31 }
         requires unfailed { AreOpen (queues_of K.Sink N.Sink R.Sink self.old writer.old notes.old rejects.old) }
-        ensures told { (keeps : Rejects) → Tells mode keeps (λ line. line ≡ verdict_line (1 + count_of self.old.counter) (brief_verdict (Ok report.now))) message.now (brief_verdict (Ok report.now))
-            (queues_of K.Sink N.Sink R.Sink self.old writer.old notes.old rejects.old) (queues_of K.Sink N.Sink R.Sink self.new writer.new notes.new rejects.new) }
-        ensures so { AreSo (queues_of K.Sink N.Sink R.Sink self.new writer.new notes.new rejects.new) result }
-        ensures counted { self.new.counter ≡ tally_with message.now (brief_verdict (Ok report.now)) self.old.counter }
+        ensures told { AddsBy checker.now (past_all checker.now self.old.counter) message.now (queues_of K.Sink N.Sink R.Sink self.old writer.old notes.old rejects.old)
+            (queues_of K.Sink N.Sink R.Sink self.new writer.new notes.new rejects.new) self.old.counter self.new.counter result }
     {
-        match mode {
+        let report = match report {
+            Ok(report) => report,
+            Err(fault) => return self.add_no(checker, message, fault, writer, notes, rejects),
+        };
+        match checker.terms().mode {
             Mode::Lines | Mode::Csv => {
-                self.line.set_yes(1 + self.counter.messages(), report);
+                self.line.set_yes(1 + self.counter.messages(), &report);
                 self.out.put(writer, self.line.bytes());
             }
             Mode::BadLines => {}
             Mode::Filter => self.out.put(writer, message),
         }
-        self.counter.count_yes(message, report);
+        self.counter.count_yes(message, &report);
         self.settle(writer, notes, rejects)
     }
 
@@ -178,18 +162,15 @@ impl<A: Allocator> Output<A> {
         rejects: &mut R,
     ) -> Result<(), RunFault>
         requires brief { IsTrue (is_brief checker.now) }
+        requires verdict { IsVerdict checker.now (buffer_in checker.now message.now) (brief_verdict (Err fault)) }
         requires few { count_of self.old.counter < 2 ^ 63 }
         requires short { length message.now < 2 ^ 31 }
         requires unfailed { AreOpen (queues_of K.Sink N.Sink R.Sink self.old writer.old notes.old rejects.old) }
-        ensures { AddsOr (Tells checker.now.mode checker.now.rejects
-            (IsLine checker.now (spot_of (past_all checker.now self.old.counter) message.now) (brief_verdict (Err fault))) message.now (brief_verdict (Err fault))
-            (queues_of K.Sink N.Sink R.Sink self.old writer.old notes.old rejects.old) (queues_of K.Sink N.Sink R.Sink self.new writer.new notes.new rejects.new)
-            × (self.new.counter ≡ tally_with message.now (brief_verdict (Err fault)) self.old.counter))
-            (queues_of K.Sink N.Sink R.Sink self.old writer.old notes.old rejects.old)
+        ensures told { AddsBy checker.now (past_all checker.now self.old.counter) message.now (queues_of K.Sink N.Sink R.Sink self.old writer.old notes.old rejects.old)
             (queues_of K.Sink N.Sink R.Sink self.new writer.new notes.new rejects.new) self.old.counter self.new.counter result }
     {
         let verdict = Err(Wrong { fault, place: None });
-        let spot = self.counter.spot(checker.begin(), message);
+        let spot = self.counter.spot(checker.terms().skip, message);
         self.say(checker, b"", &spot, message, &verdict, writer)?;
         self.counter.count(message, &verdict);
         self.keep(checker.rejects(), message, &verdict, writer, notes, rejects)
@@ -207,7 +188,7 @@ impl<A: Allocator> Output<A> {
         writer: &mut K,
     ) -> Result<(), AllocError>
         requires begin { begin.now ≡ label_text checker.now.label }
-        ensures ok { OnOk result (Says checker.now.mode (IsLine checker.now spot.now (verdict_of verdict.now)) message.now (verdict_of verdict.now)
+        ensures ok { OnOk result (Says checker.now.terms.mode (IsLine checker.now spot.now (verdict_of verdict.now)) message.now (verdict_of verdict.now)
             (queue_of K.Sink self.old.out writer.old) (queue_of K.Sink self.new.out writer.new) self.old.notes.bytes.items self.new.notes.bytes.items) }
         ensures err { OnErr result (queue_of K.Sink self.new.out writer.new ≡ queue_of K.Sink self.old.out writer.old) }
         ensures err_noted { OnErr result (self.new.notes.bytes.items ≡ self.old.notes.bytes.items) }
@@ -215,79 +196,42 @@ impl<A: Allocator> Output<A> {
         ensures rejects { self.new.rejects ≡ self.old.rejects }
         ensures counted { self.new.counter ≡ self.old.counter }
     {
+        let terms = checker.terms();
         match verdict {
-            Ok(found) => match checker.mode() {
-                Mode::Lines => self.put_line(checker, begin, spot, verdict, writer),
-                Mode::BadLines => Ok(()),
-                Mode::Filter => {
-                    self.out.put(writer, message);
-                    Ok(())
+            Ok(found) => {
+                let answers = found.answers.as_slice();
+                match terms.mode {
+                    Mode::Lines => {
+                        self.make_front(checker, begin, spot, verdict)?;
+                        self.out.put(writer, self.made.as_slice());
+                        put_values(&mut self.out, writer, terms.form, checker.paths(), answers);
+                        Ok(())
+                    }
+                    Mode::BadLines => Ok(()),
+                    Mode::Filter => {
+                        self.out.put(writer, message);
+                        Ok(())
+                    }
+                    Mode::Csv => {
+                        put_row(&mut self.out, writer, checker.label(), answers);
+                        Ok(())
+                    }
                 }
-                Mode::Csv => {
-                    let answers = found.answers.as_slice();
-                    put_row(&mut self.out, writer, checker.label(), answers);
-                    Ok(())
+            }
+            Err(_) => {
+                self.make_front(checker, begin, spot, verdict)?;
+                match terms.mode {
+                    Mode::Lines | Mode::BadLines => {
+                        self.out.put(writer, self.made.as_slice());
+                        Ok(())
+                    }
+                    Mode::Filter | Mode::Csv => {
+                        self.notes.bytes.extend_from_slice(self.made.as_slice())?;
+                        Ok(())
+                    }
                 }
-            },
-            Err(_) => match checker.mode() {
-                Mode::Lines | Mode::BadLines => {
-                    self.put_line(checker, begin, spot, verdict, writer)
-                }
-                Mode::Filter | Mode::Csv => self.note_line(checker, begin, spot, verdict),
-            },
+            }
         }
-    }
-
-    /// Puts the line of this verdict on the message there for the writer. Plain lines begin so.
-    fn put_line<K: Sink>(
-        &mut self,
-        checker: &Checker<'_, '_, '_>,
-        begin: &[u8],
-        spot: &Spot,
-        verdict: &Result<Found<'_>, Wrong<'_>>,
-        writer: &mut K,
-    ) -> Result<(), AllocError>
-        requires begin { begin.now ≡ label_text checker.now.label }
-        ensures ok { OnOk result (PutsSome (IsLineIn checker.now.form checker.now spot.now (verdict_of verdict.now))
-            (queue_of K.Sink self.old.out writer.old) (queue_of K.Sink self.new.out writer.new)) }
-        ensures err { OnErr result (queue_of K.Sink self.new.out writer.new ≡ queue_of K.Sink self.old.out writer.old) }
-        ensures notes { self.new.notes ≡ self.old.notes }
-        ensures rejects { self.new.rejects ≡ self.old.rejects }
-        ensures counted { self.new.counter ≡ self.old.counter }
-    {
-        self.make_front(checker, begin, spot, verdict)?;
-        self.out.put(writer, self.made.as_slice());
-        if let Ok(found) = verdict {
-            let answers = found.answers.as_slice();
-            put_values(
-                &mut self.out,
-                writer,
-                checker.form(),
-                checker.paths(),
-                answers,
-            );
-        }
-        Ok(())
-    }
-
-    /// Adds the line of this verdict on the bad message there to what waits for the notes.
-    fn note_line(
-        &mut self,
-        checker: &Checker<'_, '_, '_>,
-        begin: &[u8],
-        spot: &Spot,
-        verdict: &Result<Found<'_>, Wrong<'_>>,
-    ) -> Result<(), AllocError>
-        requires begin { begin.now ≡ label_text checker.now.label }
-        ensures ok { OnOk result (self.new.notes.bytes.items ≡ self.old.notes.bytes.items ++ front_in checker.now.form checker.now spot.now (verdict_of verdict.now)) }
-        ensures err { OnErr result (self.new.notes.bytes.items ≡ self.old.notes.bytes.items) }
-        ensures out { self.new.out ≡ self.old.out }
-        ensures noted { self.new.notes.written ≡ self.old.notes.written }
-        ensures rejects { self.new.rejects ≡ self.old.rejects }
-        ensures counted { self.new.counter ≡ self.old.counter }
-    {
-        self.make_front(checker, begin, spot, verdict)?;
-        self.notes.bytes.extend_from_slice(self.made.as_slice())
     }
 
     /// Makes what the line of this verdict on the message there has before its values, which is all of the line of a no.
@@ -300,14 +244,14 @@ impl<A: Allocator> Output<A> {
         verdict: &Result<Found<'_>, Wrong<'_>>,
     ) -> Result<(), AllocError>
         requires begin { begin.now ≡ label_text checker.now.label }
-        ensures front { OnOk result (self.new.made.items ≡ front_in checker.now.form checker.now spot.now (verdict_of verdict.now)) }
+        ensures front { OnOk result (self.new.made.items ≡ front_in checker.now.terms.form checker.now spot.now (verdict_of verdict.now)) }
         ensures out { self.new.out ≡ self.old.out }
         ensures notes { self.new.notes ≡ self.old.notes }
         ensures rejects { self.new.rejects ≡ self.old.rejects }
         ensures counted { self.new.counter ≡ self.old.counter }
     {
         self.made.clear();
-        match checker.form() {
+        match checker.terms().form {
             LineForm::Plain => {
                 self.line.set(spot.number, verdict);
                 self.made.extend_from_slice(begin)?;
@@ -348,8 +292,8 @@ impl<A: Allocator> Output<A> {
         }
     }
 
-    /// Puts a bad message behind what waits for the rejects. One that is much by itself is written as it is, and so is one
-    /// for which memory is refused.
+    /// Puts a bad message behind what waits for the rejects. One that is much by itself is written as it is, behind all
+    /// that waits, and so is one for which memory is refused.
     #[inline(never)]
     fn keep_bad<K: Sink, N: Sink, R: Sink>(
         &mut self,
@@ -367,33 +311,9 @@ impl<A: Allocator> Output<A> {
         ensures few { OnOk result (length self.new.rejects.bytes.items < 65536) }
         ensures counted { self.new.counter ≡ self.old.counter }
     {
-        if message.len() >= MOST_WAITING {
-            return self.pass_bad(message, writer, notes, rejects);
+        if let Ok(()) = hold(&mut self.rejects.bytes, message) {
+            return self.settle(writer, notes, rejects);
         }
-        match self.rejects.bytes.extend_from_slice(message) {
-            Ok(()) => self.settle(writer, notes, rejects),
-            Err(_) => self.pass_bad(message, writer, notes, rejects),
-        }
-    }
-
-    /// Writes all that waits, and then a bad message to the rejects.
-    #[inline(never)]
-    fn pass_bad<K: Sink, N: Sink, R: Sink>(
-        &mut self,
-        message: &[u8],
-        writer: &mut K,
-        notes: &mut N,
-        rejects: &mut R,
-    ) -> Result<(), RunFault>
-        requires unfailed { self.old.notes.written.failed ≡ false }
-        requires unfailed_rejects { self.old.rejects.written.failed ≡ false }
-        ensures puts { PutsTold (to_rejects message.now)
-            (queues_of K.Sink N.Sink R.Sink self.old writer.old notes.old rejects.old) (queues_of K.Sink N.Sink R.Sink self.new writer.new notes.new rejects.new) }
-        ensures so { AreSo (queues_of K.Sink N.Sink R.Sink self.new writer.new notes.new rejects.new) result }
-        ensures little { OnOk result (length self.new.notes.bytes.items < 65536) }
-        ensures few { OnOk result (length self.new.rejects.bytes.items < 65536) }
-        ensures counted { self.new.counter ≡ self.old.counter }
-    {
         self.flush(writer, notes, rejects)?;
         self.rejects.put(rejects, message);
         self.flush(writer, notes, rejects)
@@ -479,10 +399,9 @@ impl<A: Allocator> Output<A> {
         ensures due { HasDue checker.now (past_all checker.now self.now.counter) result }
         ensures full { result ≡ 0 → IsFull checker.now (past_all checker.now self.now.counter) }
     {
-        let messages = checker
-            .most_messages()
-            .saturating_sub(self.counter.messages());
-        let bad = checker.most_bad().saturating_sub(self.counter.bad());
+        let terms = checker.terms();
+        let messages = terms.most_messages.saturating_sub(self.counter.messages());
+        let bad = terms.most_bad.saturating_sub(self.counter.bad());
         messages.min(bad)
     }
 

@@ -82,9 +82,9 @@ pub fn read_whole<A: Allocator, B: Allocator, S: Input<K, N>, K: Sink, N: Sink>(
     ensures turns { S.calls source.new ≤ S.calls source.old + turns }
     ensures short { IfOk result (λ whole. length whole.items < 2 ^ 31) }
 {
-    let limit = checker.limit();
+    let limit = checker.terms().max_bytes;
     let mut whole = Vec::new(alloc);
-    let mut skip = Skip::new(checker.begin());
+    let mut skip = Skip::new(checker.terms().skip);
     let mut left = turns;
     while left > 0 {
         left -= 1;

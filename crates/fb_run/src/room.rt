@@ -1,8 +1,7 @@
 //! What a checker needs beside a buffer.
 
 ghost use Rattle.std.specs.Prelude.{IfOk, IfSome, ◌≡◌, ◌≤◌, option_map};
-ghost use Rattle.fb_run.specs.AnswerText.{label_text};
-ghost use Rattle.fb_run.specs.declared.options.Places.TheVariants.{Words};
+ghost use Rattle.fb_run.specs.{AnswerText.label_text, declared.options.Places.TheVariants.Words};
 
 use crate::options::{Options, Places};
 use crate::value_text::put_label;

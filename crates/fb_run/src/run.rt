@@ -99,7 +99,7 @@ pub fn run_keeping<A: Allocator, S: Input<K, N>, K: Sink, N: Sink, R: Sink>(
     let Ok(mut carried) = Carried::new(&alloc, &checker) else {
         return Ran::none(RunFault::OutOfMemory);
     };
-    if checker.is_bare() {
+    if checker.terms().bare {
         let end = carried.pass_bare(
             &alloc, &mut piece, reader, writer, notes, rejects, &checker, turns,
         );

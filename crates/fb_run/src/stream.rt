@@ -71,7 +71,7 @@ impl<A: Allocator> Carried<A> {
         ensures { Runs false checker.now (all_ends S.Input K.Sink N.Sink R.Sink reader.old writer.old notes.old rejects.old)
             (all_ends S.Input K.Sink N.Sink R.Sink reader.new writer.new notes.new rejects.new) turns self.new.output.counter result }
     {
-        let mut skip = Skip::new(checker.begin());
+        let mut skip = Skip::new(checker.terms().skip);
         let mut left = turns;
         while left > 0 {
             left -= 1;

@@ -1,6 +1,6 @@
 //! The line that tells what a run came to.
 
-ghost use Rattle.std.specs.Prelude.{◌≡◌, ◌+◌, ◌<◌, ◌≤◌, [], length, max};
+ghost use Rattle.std.specs.Prelude.{◌≡◌, ◌+◌, ◌*◌, ◌<◌, ◌≤◌, [], length, max};
 ghost use Rattle.fb_rules.specs.Reasons.{reason_count};
 ghost use Rattle.fb_run.specs.{JsonSums.summary_in, Sums.counts_part, Sums.in_form, Sums.reason_part, Sums.reasons_part, Sums.verdicts_part};
 
@@ -23,8 +23,9 @@ pub fn summary(form: LineForm, tally: &Tally) -> Line
 }
 
 /// Puts how many messages there are, and how many had a yes and a no, in front.
+#[tactic(auto, using(std::proofs::lemmas::Grind::common_steps))]
 fn put_verdicts(line: &mut Line, form: LineForm, tally: &Tally)
-    requires { length line.old ≤ 600 }
+    requires { length line.old ≤ 150 + 27 * reason_count }
     ensures { line.new ≡ verdicts_part form tally.now line.old }
 {
     line.put_number(tally.no);
@@ -55,7 +56,7 @@ fn put_reasons(line: &mut Line, form: LineForm, counts: &[u64; REASONS])
     requires room { length line.old ≤ 150 }
     requires places { length counts.now ≡ reason_count }
     ensures text { line.new ≡ reasons_part form counts.now line.old }
-    ensures short { length line.new ≤ 582 }
+    ensures short { length line.new ≤ 150 + 27 * reason_count }
 {
     let mut place = counts.len();
     while place > 0 {
@@ -67,7 +68,7 @@ fn put_reasons(line: &mut Line, form: LineForm, counts: &[u64; REASONS])
 /// Puts how often the reason with this number was given, in front, where it was.
 #[tactic(auto, using(crate::proofs::SumsLemmas::in_front))]
 fn put_reason(line: &mut Line, form: LineForm, number: u64, count: u64)
-    requires room { length line.old ≤ 600 }
+    requires room { length line.old ≤ 150 + 27 * reason_count }
     requires number { number < 100 }
     ensures text { line.new ≡ reason_part form number count line.old }
     ensures short { length line.new ≤ length line.old + 27 }

@@ -46,6 +46,7 @@ fn put_plain<A: Allocator, K: Sink>(out: &mut Pending<A>, sink: &mut K, answers:
 }
 
 /// Puts a value behind a space.
+#[tactic(auto, using(crate::proofs::AnswerLemmas::digits_each))]
 fn put_spaced<A: Allocator, K: Sink>(out: &mut Pending<A>, sink: &mut K, answer: &Answer<'_>)
     ensures { Puts (spaced_answer answer.now) (queue_of K.Sink out.old sink.old) (queue_of K.Sink out.new sink.new) }
 {
@@ -106,6 +107,7 @@ fn put_members<A: Allocator, K: Sink>(
 }
 
 /// Puts the text of a path as a member's name, behind another one or as the first.
+#[tactic(auto, using(crate::proofs::JsonLemmas::key_spelled))]
 fn put_key<A: Allocator, K: Sink>(out: &mut Pending<A>, sink: &mut K, behind: bool, path: &[u8])
     ensures { Puts ((if behind then codes "," else []) ++ (json_text (string path.now) ++ codes ":")) (queue_of K.Sink out.old sink.old) (queue_of K.Sink out.new sink.new) }
 {
@@ -176,6 +178,7 @@ fn put_real<A: Allocator, K: Sink, F: Float>(
 /// Puts a word that stands for a float: between quotes as JSON.
 #[cold]
 #[inline(never)]
+#[tactic(auto, using(crate::proofs::PutsLemmas::three_puts))]
 fn put_word<A: Allocator, K: Sink>(
     out: &mut Pending<A>,
     sink: &mut K,
@@ -217,6 +220,7 @@ fn put_exactly<A: Allocator, K: Sink>(
 }
 
 /// Puts such a value as a field of CSV, where this is the field of what is absent.
+#[tactic(auto, using(crate::proofs::AnswerLemmas::digits_each))]
 fn put_field<A: Allocator, K: Sink>(
     out: &mut Pending<A>,
     sink: &mut K,
@@ -245,6 +249,7 @@ fn put_field<A: Allocator, K: Sink>(
 }
 
 /// Puts a value that has one text as JSON.
+#[tactic(auto, using(crate::proofs::JsonLemmas::fixed_texts, crate::proofs::JsonLemmas::number_text, crate::proofs::JsonLemmas::float_put, crate::proofs::JsonLemmas::struct_put, crate::proofs::JsonLemmas::vector_put, crate::proofs::JsonLemmas::union_put))]
 fn put_as_is<A: Allocator, K: Sink>(out: &mut Pending<A>, sink: &mut K, answer: &Answer<'_>)
     ensures { Puts (json_text (value_json (shown answer.now))) (queue_of K.Sink out.old sink.old) (queue_of K.Sink out.new sink.new) }
 {
@@ -268,6 +273,7 @@ fn put_as_is<A: Allocator, K: Sink>(out: &mut Pending<A>, sink: &mut K, answer: 
 }
 
 /// Puts a text as JSON: a string where it is UTF-8, and its bytes where it isn't.
+#[tactic(auto, using(crate::proofs::JsonLemmas::text_is_string, crate::proofs::JsonLemmas::text_is_bytes, crate::proofs::JsonLemmas::bytes_put, crate::proofs::JsonLemmas::string_put))]
 fn put_text<A: Allocator, K: Sink>(out: &mut Pending<A>, sink: &mut K, bytes: &[u8])
     ensures { Puts (json_text (text_json bytes.now)) (queue_of K.Sink out.old sink.old) (queue_of K.Sink out.new sink.new) }
 {
@@ -278,6 +284,7 @@ fn put_text<A: Allocator, K: Sink>(out: &mut Pending<A>, sink: &mut K, bytes: &[
 }
 
 /// Puts bytes as hexadecimal digits behind what opens an object and a string, and the ends of both.
+#[tactic(auto, using(crate::proofs::JsonLemmas::digits_put))]
 fn put_digits<A: Allocator, K: Sink>(out: &mut Pending<A>, sink: &mut K, head: &[u8], bytes: &[u8])
     ensures { Puts (head.now ++ (escape (encode_lower bytes.now) ++ codes "\"}")) (queue_of K.Sink out.old sink.old) (queue_of K.Sink out.new sink.new) }
 {
@@ -285,6 +292,7 @@ fn put_digits<A: Allocator, K: Sink>(out: &mut Pending<A>, sink: &mut K, head: &
 }
 
 /// Puts a number behind what opens an object, and its end.
+#[tactic(auto, using(crate::proofs::PutsLemmas::two_then))]
 fn put_labelled<A: Allocator, K: Sink, I: Integer>(
     out: &mut Pending<A>,
     sink: &mut K,
@@ -298,6 +306,7 @@ fn put_labelled<A: Allocator, K: Sink, I: Integer>(
 }
 
 /// Puts a number behind a text.
+#[tactic(auto, using(crate::proofs::PutsLemmas::puts_then))]
 fn put_number<A: Allocator, K: Sink, I: Integer>(
     out: &mut Pending<A>,
     sink: &mut K,
@@ -312,6 +321,7 @@ fn put_number<A: Allocator, K: Sink, I: Integer>(
 }
 
 /// Puts the bytes of a value between two texts.
+#[tactic(auto, using(crate::proofs::PutsLemmas::two_then))]
 pub fn put_between<A: Allocator, K: Sink>(
     out: &mut Pending<A>,
     sink: &mut K,

@@ -1,6 +1,6 @@
 //! Writing to a sink that may take a text in parts, and a sink that keeps nothing.
 
-ghost use Rattle.std.specs.Prelude.{OnErr, OnOk, ◌≡◌, ◌<◌, ◌≤◌, [], None, false, length, take};
+ghost use Rattle.std.specs.Prelude.{OnErr, OnOk, ◌≡◌, ◌++◌, ◌<◌, ◌≤◌, [], None, false, length, take};
 ghost use Rattle.std.specs.Io.KnownBytes.{Appends};
 ghost use Rattle.fb_bytes.specs.Ends.{one_more};
 ghost use Rattle.fb_run.specs.{Ends.writer_of, Puts.Puts, Puts.PutsAs, Puts.behind, Puts.queue_of};
@@ -51,6 +51,18 @@ fn write_all<K: Sink>(sink: &mut K, text: &[u8], before: Written) -> Written
 /// Where as many bytes wait, they are written.
 pub const MOST_WAITING: usize = 65_536;
 
+/// Adds a text to what waits. For one that is much by itself there is no memory.
+#[inline(always)]
+pub fn hold<A: Allocator>(bytes: &mut Vec<u8, A>, text: &[u8]) -> Result<(), AllocError>
+    ensures ok { OnOk result (bytes.new.items ≡ bytes.old.items ++ text.now) }
+    ensures err { OnErr result (bytes.new.items ≡ bytes.old.items) }
+{
+    if text.len() >= MOST_WAITING {
+        return Err(AllocError);
+    }
+    bytes.extend_from_slice(text)
+}
+
 /// Bytes that wait to be written to one sink, and what was written to it before. Once a write has failed, nothing more
 /// is written.
 #[derive(Drop)]
@@ -92,10 +104,7 @@ impl<A: Allocator> Pending<A> {
         ensures puts { Puts text.now (queue_of K.Sink self.old sink.old) (queue_of K.Sink self.new sink.new) }
         ensures little { length self.new.bytes.items < 65536 }
     {
-        if text.len() >= MOST_WAITING {
-            return self.write_through(sink, text, Err(AllocError));
-        }
-        let added = self.bytes.extend_from_slice(text);
+        let added = hold(&mut self.bytes, text);
         if added.is_ok() && self.bytes.len() < MOST_WAITING {
             return;
         }

@@ -1,8 +1,7 @@
 -- What goals name in place of an item that isn't there.
 use Rattle.std.proofs.Common.{[], false, pos, None}
-use Rattle.fb_schema.specs.declared.{kinds.Kind.TheVariants.Scalar, kinds.Scalar.TheVariants.UType, flat.ObjectPart.ObjectPart}
-use Rattle.fb_schema.specs.declared.{flat.EnumPart.EnumPart, views.FieldView.FieldView, rows.TypeRow.TypeRow, rows.FieldRow.FieldRow}
-use Rattle.fb_schema.specs.declared.rows.MemberRow.{MemberRow}
+use Rattle.fb_schema.specs.declared.{kinds.Kind.TheVariants.Scalar, kinds.Scalar.TheVariants.UType, flat.ObjectPart.ObjectPart, flat.EnumPart.EnumPart, views.FieldView.FieldView}
+use Rattle.fb_schema.specs.declared.rows.{TypeRow.TypeRow, FieldRow.FieldRow, MemberRow.MemberRow}
 
 abbrev pub blank_type : TypeRow
 blank_type = record { base = pos 0; element = pos 0; index = pos 0; fixed_length = 0 }

@@ -1,8 +1,7 @@
 -- The laws of the first illegal demand.
 use Rattle.std.proofs.Common.{◌≡◌, ℕ, zero, suc, ◌<◌, ◌≤◌, ◌⊎◌, inl, inr, Bool, true, false, List, [], ◌∷◌, length, slice_get, Option, Some, None, refl, sym, ◌∙◌, ap, subst, arith, if◌then◌else◌}
-use Rattle.fb_schema.specs.declared.{fault.Code.Code, fault.SchemaFault.SchemaFault}
-use Rattle.fb_schema.specs.Rows.{Object, Enum, Rows}
-use Rattle.fb_schema.specs.Demands.{Demand, Key, IsBefore, IsBroken, IsLegal, IsFirstIllegal, demands_at, demands_of_object, demands_of_enum, first_code, part_of}
+use Rattle.fb_schema.specs.{declared.fault.Code.Code, declared.fault.SchemaFault.SchemaFault, Rows.Object, Rows.Enum, Rows.Rows, Demands.Demand, Demands.Key, Demands.IsBefore}
+use Rattle.fb_schema.specs.Demands.{IsBroken, IsLegal, IsFirstIllegal, demands_at, demands_of_object, demands_of_enum, first_code, part_of}
 use Rattle.fb_schema.proofs.Numbers.{slice_get_past}
 use Rattle.std.proofs.lemmas.Option.{same_Some}
 

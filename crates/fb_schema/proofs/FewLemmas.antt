@@ -1,5 +1,5 @@
 -- A test of the items of a list, one after another, against a limit.
-use Rattle.std.proofs.Common.{◌≡◌, ℕ, ◌+◌, ◌<◌, ◌≤◌, ◌↔◌, true, false, IsTrue, List, All, length, get_or, take, take_all, refl, subst, ap, ◌∙◌, arith}
+use Rattle.std.proofs.Common.{◌≡◌, ℕ, ◌+◌, ◌<◌, ◌≤◌, ◌↔◌, true, false, IsTrue, List, All, length, get_or, take, subst, ap, ◌∙◌, arith}
 use Rattle.std.proofs.lemmas.List.Elements.{All-more}
 
 module _ {X : Type 0} (size : X → ℕ) (limit : ℕ) (xs : List X) (i : ℕ) where
@@ -8,6 +8,3 @@ module _ {X : Type 0} (size : X → ℕ) (limit : ℕ) (xs : List X) (i : ℕ) w
 
   pub one_beyond : (x : X) (n : ℕ) → i < length xs → x ≡ get_or xs i x → n ≡ size x → limit ≤ n → IsTrue false ↔ All (λ x. size x < limit) xs
   one_beyond x n lt at is beyond = (λ t. absurd (let w : false ≡ true = t in cc), λ all. absurd (let below = all i x lt in let same = is ∙ ap size at in omega (arith, same, below, beyond)))
-
-  pub all_below : length xs ≤ i → All (λ x. size x < limit) (take i xs) → IsTrue true ↔ All (λ x. size x < limit) xs
-  all_below past before = (λ t. subst (All (λ x. size x < limit)) (take_all i xs past) before, λ all. refl)

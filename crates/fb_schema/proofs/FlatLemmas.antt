@@ -1,7 +1,6 @@
 -- A list that is added behind others leaves them as they are.
 use Rattle.std.proofs.Common.{◌≡◌, ◌≤◌, ◌<◌, ◌-◌, ◌+◌, ◌^◌, ℕ, [], ◌∷◌, ◌++◌, map, length, List, take, drop, refl, ◌∙◌, ap, arith, length-append, subst, sym, Bool, true, false, if◌then◌else◌, length-drop, All}
-use Rattle.std.proofs.lemmas.List.{map-append, drop-append-le, take-append-le, drop_at, take_all}
-use Rattle.std.proofs.lemmas.List.Elements.{All-head, All-tail, All-push}
+use Rattle.std.proofs.lemmas.List.{map-append, drop-append-le, take-append-le, drop_at, take_all, Elements.All-head, Elements.All-tail, Elements.All-push}
 use Rattle.fb_schema.specs.Flat.{part, IsPart, AreWithin}
 
 kept : {T : Type 0} (xs ys : List T) (r : ℕ × ℕ) → (r.0 ≤ r.1) × (r.1 ≤ length xs) → part (xs ++ ys) r ≡ part xs r

@@ -1,12 +1,8 @@
 -- The steps by which the index of a schema is made.
 use Rattle.std.proofs.Common.{◌≡◌, ℕ, zero, suc, ◌+◌, ◌<◌, ◌≤◌, ◌⊎◌, inl, inr, Bool, false, List, [], ◌∷◌, ◌++◌, length, get_or, slice_get, take, map, max, Some, None, Result, Ok, Err, OnOk, IfOk, IsOkAnd, refl, sym, ◌∙◌, ap, subst, arith, if◌then◌else◌}
-use Rattle.std.proofs.lemmas.List.{map-append, get_or-map, length_push, map_more}
-use Rattle.std.proofs.lemmas.{Option.slice_get-get_or, Option.slice_get_within}
-use Rattle.std.proofs.lemmas.Grind.{take_at_read}
-use Rattle.fb_schema.specs.declared.{rows.FieldRow.FieldRow}
-use Rattle.fb_schema.specs.Live.{Live, AreSpaced, live_rows, widest_of}
-use Rattle.fb_schema.specs.{Index.AreMatched, Steps.act_of, Steps.is_plain_act, Steps.are_plain}
-use Rattle.fb_schema.specs.Rows.{Object, field_of}
+use Rattle.std.proofs.lemmas.{List.map-append, List.get_or-map, List.length_push, List.map_more, Option.slice_get-get_or, Option.slice_get_within, Grind.take_at_read}
+use Rattle.fb_schema.specs.{declared.rows.FieldRow.FieldRow, Live.Live, Live.AreSpaced, Live.live_rows, Live.widest_of, Index.AreMatched, Steps.act_of, Steps.is_plain_act}
+use Rattle.fb_schema.specs.{Steps.are_plain, Rows.Object, Rows.field_of}
 use Rattle.fb_schema.proofs.{Numbers.get_or_default, WalkLemmas.mapped_at}
 
 -- what holds where a call was granted
@@ -70,11 +66,6 @@ kept_read f xs i d lt = mapped_at f xs i (get_or xs i d) (slice_get-get_or xs i 
 
 pub mapped_read : {X Y : Type 0} (f : X → Y) (xs : List X) (i : ℕ) (d : X) → i < length xs → f (get_or xs i d) ≡ get_or (map f xs) i (f (get_or xs i d))
 mapped_read f xs i d lt = let x = get_or xs i d in ap f (get_or_default xs i d x lt) ∙ sym (get_or-map f xs i x (f x) lt)
-
--- one map after another
-pub mapped_twice : {X Y Z : Type 0} (g : Y → Z) (f : X → Y) (xs : List X) → map (λ x. g (f x)) xs ≡ map g (map f xs)
-mapped_twice g f [] = refl
-mapped_twice g f (x ∷ xs) = ap (λ zs. g (f x) ∷ zs) (mapped_twice g f xs)
 
 -- a slot of 16 bits leaves room below it for so many others
 pub few_step : (live : List FieldRow) (i : ℕ) (d : FieldRow) → AreSpaced (map field_of live) → i < length live → (get_or live i d).slot < 65536 → i + 1 ≤ 32766

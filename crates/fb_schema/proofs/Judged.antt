@@ -2,9 +2,8 @@
 -- broken.
 use Rattle.std.proofs.Common.{◌≡◌, ℕ, zero, suc, ◌<◌, Option, Some, None, refl, subst, arith, option_map}
 use Rattle.std.proofs.lemmas.Option.{same_Some}
-use Rattle.fb_schema.specs.declared.{fault.Code.Code, fault.SchemaFault.SchemaFault}
-use Rattle.fb_schema.specs.Rows.{Rows}
-use Rattle.fb_schema.specs.Demands.{IsLegal, IsFirstIllegal, demands_at, first_code, part_of}
+use Rattle.fb_schema.specs.{declared.fault.Code.Code, declared.fault.SchemaFault.SchemaFault, Rows.Rows, Demands.IsLegal, Demands.IsFirstIllegal, Demands.demands_at}
+use Rattle.fb_schema.specs.Demands.{first_code, part_of}
 use Rattle.fb_schema.proofs.DemandLaws.{IsClear, levels_end, owners_end, places_end, past_levels, past_owners, past_places, is_legal, first_illegal}
 
 -- what was found before, or what is found at n

@@ -1,12 +1,10 @@
 -- The keys of a list, one after another, and the test whether an item stood before.
 use Rattle.std.proofs.Common.{◌≡◌, ℕ, suc, ◌+◌, ◌<◌, Bool, true, false, ◌||◌, List, [], ◌∷◌, ◌++◌, length, slice_get, get_or, take, map, Option, Some, None, refl, sym, ◌∙◌, ap, subst, arith, zero-add, Decides, Ordering, Equal}
-use Rattle.fb_schema.proofs.Search.{not_true}
-use Rattle.std.proofs.lemmas.List.{get_or-take, length-take-le, map-append, get_or-map, length-map, take-map}
-use Rattle.std.proofs.lemmas.{List.Folds.Any-from_list_any, List.Folds.list_any-from_Any, Option.slice_get_within, Option.get_or_from_slice_get}
-use Rattle.std.proofs.lemmas.{Bool.Decides.Decides-eqb, Grind.take_at_read}
+use Rattle.fb_schema.proofs.{Search.not_true, Numbers.get_or_default, Numbers.slice_get_some, Numbers.neither_below, Numbers.same_test}
+use Rattle.std.proofs.lemmas.List.{get_or-take, length-take-le, map-append, get_or-map, length-map, take-map, Folds.Any-from_list_any, Folds.list_any-from_Any}
+use Rattle.std.proofs.lemmas.{Option.slice_get_within, Option.get_or_from_slice_get, Bool.Decides.Decides-eqb, Grind.take_at_read}
 use Rattle.std.specs.List.{list_any}
 use Rattle.fb_schema.specs.{Sorting.numbered, Sorting.IsAgain, Sorting.IsFirstAgain, Demands.stands_before, Demands.is_at}
-use Rattle.fb_schema.proofs.Numbers.{get_or_default, slice_get_some, neither_below, same_test}
 
 numbered-push : {K : Type 0} (keys : List K) (n : ℕ) (key : K) → numbered n (keys ++ key ∷ []) ≡ numbered n keys ++ (key, n + length keys) ∷ []
 numbered-push [] n key = ap (λ m. (key, m) ∷ []) (let w : n ≡ n + 0 = omega arith in w)

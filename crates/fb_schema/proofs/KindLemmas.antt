@@ -4,11 +4,10 @@ use Rattle.fb_schema.proofs.KindWords.{Kind, Struct, Table, Union, Structs, Tabl
 use Rattle.fb_schema.proofs.{Numbers.not_false, DemandLaws.clear_line, LegalLemmas.legal_clear}
 use Rattle.std.proofs.lemmas.{Option.slice_get_within, Option.MatchOption-at_some, Bool.Decides.Decides-eqb}
 use Rattle.std.specs.List.{list_any}
-use Rattle.fb_schema.specs.declared.rows.TypeRow.{TypeRow}
-use Rattle.fb_schema.specs.Demands.{IsLegal, object_demands, is_alignment, is_union_shape, lacks_type_field}
-use Rattle.fb_schema.specs.Kinds.{kind_of, shape_of, shape_kind, object_kind, union_kind, struct_align, align_in}
-use Rattle.fb_schema.specs.{Vectors.vector_of, Members.member_of, Members.members_of, Served.IsAlignment, Served.MemberHolds}
-use Rattle.fb_schema.specs.Rows.{Rows, Object, Enum, Member, entry_at, is_table, is_union, is_some_table, is_some_union}
+use Rattle.fb_schema.specs.{declared.rows.TypeRow.TypeRow, Demands.IsLegal, Demands.object_demands, Demands.is_alignment, Demands.is_union_shape, Demands.lacks_type_field}
+use Rattle.fb_schema.specs.{Kinds.kind_of, Kinds.shape_of, Kinds.shape_kind, Kinds.object_kind, Kinds.union_kind, Kinds.struct_align, Kinds.align_in, Vectors.vector_of}
+use Rattle.fb_schema.specs.{Members.member_of, Members.members_of, Served.IsAlignment, Served.MemberHolds, Rows.Rows, Rows.Object, Rows.Enum, Rows.Member, Rows.entry_at}
+use Rattle.fb_schema.specs.Rows.{is_table, is_union, is_some_table, is_some_union}
 
 -- a vector has the kind of a vector of what its element alone would have
 pub vector_kind : (rows : Rows) (index : ℤ) (e : Element) → shape_kind rows index (Some (Vector e)) ≡ option_map vector_of (shape_kind rows index (Some (One e)))

@@ -1,13 +1,10 @@
 -- The live fields of legal rows have a kind.
 use Rattle.std.proofs.Common.{◌≡◌, ℕ, ℤ, pos, negsuc, true, false, not, ◌&&◌, List, slice_get, Option, Some, None, is_none, length, option_map, option_and_then, is_some, refl, sym, ◌∙◌, ap, arith, IsSome}
 use Rattle.fb_schema.specs.Demands.{IsLegal, table_field_demands, is_supported, is_object, is_union_shape, names_no_object, names_no_union}
-use Rattle.fb_schema.specs.Kinds.{kind_of, shape_of, shape_kind, object_kind, union_kind}
-use Rattle.fb_schema.specs.Live.{Live, live_rows, live_as, live_of, live_in, live_fields, AreKinded}
-use Rattle.fb_schema.specs.Rows.{Rows, Field, Object, entry_at, is_some_union}
-use Rattle.fb_schema.specs.Served.{IsSized, HaveKinds}
+use Rattle.fb_schema.specs.{Kinds.kind_of, Kinds.shape_of, Kinds.shape_kind, Kinds.object_kind, Kinds.union_kind, Live.Live, Live.live_rows, Live.live_as, Live.live_of}
+use Rattle.fb_schema.specs.{Live.live_in, Live.live_fields, Live.AreKinded, Rows.Rows, Rows.Field, Rows.Object, Rows.entry_at, Rows.is_some_union, Served.IsSized, Served.HaveKinds}
 use Rattle.fb_schema.proofs.KindWords.{Kind, Struct, Table, Union, Structs, Tables, Unions, OfObject, OfUnion, Shape, One, Vector}
-use Rattle.fb_schema.proofs.{DemandLaws.clear_line, Kept.kept_from, Kept.kept_long, Kept.kept_at}
-use Rattle.fb_schema.proofs.RowLemmas.{IsRowOf, row_in, asked, live_line}
+use Rattle.fb_schema.proofs.{DemandLaws.clear_line, Kept.kept_from, Kept.kept_long, Kept.kept_at, RowLemmas.IsRowOf, RowLemmas.row_in, RowLemmas.asked, RowLemmas.live_line}
 use Rattle.std.proofs.lemmas.Option.{option_and_then_some}
 
 -- a kind of an object that is there, and of a union that is

@@ -1,11 +1,10 @@
 -- What legal rows give.
 use Rattle.std.proofs.Common.{◌≡◌, ℕ, suc, Bool, true, false, List, [], ◌∷◌, Some, None, refl, arith, slice_get, ◌<◌, length, get_or, length-take-le, sym, ◌∙◌, take}
-use Rattle.fb_schema.specs.declared.{fault.Code.Code, kinds.TypeField.TheVariants.ForUnion, kinds.TypeField.TheVariants.ForUnions}
-use Rattle.fb_schema.specs.Demands.{Demand, IsLegal, demands_at, first_code, stands_before, table_field_demands, same_field_name, same_slot, stands_below}
+use Rattle.fb_schema.specs.{declared.fault.Code.Code, declared.kinds.TypeField.TheVariants.ForUnion, declared.kinds.TypeField.TheVariants.ForUnions, Demands.Demand}
+use Rattle.fb_schema.specs.Demands.{IsLegal, demands_at, first_code, stands_before, table_field_demands, same_field_name, same_slot, stands_below}
 use Rattle.fb_schema.specs.{Rows.Rows, Rows.Object, Rows.Field, Live.AreApart}
 use Rattle.fb_schema.proofs.{DemandLaws.IsBrokenIn, DemandLaws.IsClear, DemandLaws.clear_line, Numbers.get_or_default, Numbers.neither_below}
-use Rattle.std.proofs.lemmas.{List.get_or-take, List.Folds.list_any-from_Any, Option.slice_get-get_or, Slice.Eq.bytes_eq-Decides}
-use Rattle.std.proofs.lemmas.Bool.Decides.{Decides-eqb}
+use Rattle.std.proofs.lemmas.{List.get_or-take, List.Folds.list_any-from_Any, Option.slice_get-get_or, Slice.Eq.bytes_eq-Decides, Bool.Decides.Decides-eqb}
 
 all_clear : (ds : List Demand) → ((line : ℕ) (code : Code) → IsBrokenIn ds line code → ⊥) → first_code ds ≡ None
 all_clear [] none = refl

@@ -5,13 +5,10 @@ use Rattle.std.proofs.lemmas.{Bool.Decides.Decides-eqb}
 use Rattle.std.proofs.lemmas.List.Sorted.{IsPermutation-map, Contains-permutation, IsPermutation-sym, IsPermutation-refl, IsPermutation-trans, IsPermutation-swap, IsPermutation-cons, IsPermutation-filter_both, IsNonDecreasingBy-from_default}
 use Rattle.std.proofs.lemmas.{List.Elements.All-contains, List.Elements.All-filter, List.Elements.All-contains_itself, List.get_or_append_left}
 use borrow.Author.Tests.{leb-true, le-leb}
-use Rattle.std.specs.List.Sorted.{IsSortedBy, IsNonDecreasingBy, IsPartitionPoint}
-use Rattle.std.specs.Ordering.{nat_cmp, is_lt, ordering_index}
-use Rattle.fb_schema.specs.declared.rows.FieldRow.{FieldRow}
-use Rattle.fb_schema.specs.Rows.{Field, field_of}
-use Rattle.fb_schema.specs.Live.{insert_by_slot, by_slot, is_live, AreApart, AreRising}
-use Rattle.fb_schema.proofs.{Numbers.slice_get_some, Numbers.neither_below, Blank.blank_field, OrderLemmas.once_permuted}
-use Rattle.fb_schema.proofs.{PositionLemmas.found_position, PositionLemmas.no_position, Search.nat_tied, Search.search_missed, Search.not_true}
+use Rattle.std.specs.{List.Sorted.IsSortedBy, List.Sorted.IsNonDecreasingBy, List.Sorted.IsPartitionPoint, Ordering.nat_cmp, Ordering.is_lt, Ordering.ordering_index}
+use Rattle.fb_schema.specs.{declared.rows.FieldRow.FieldRow, Rows.Field, Rows.field_of, Live.insert_by_slot, Live.by_slot, Live.is_live, Live.AreApart, Live.AreRising}
+use Rattle.fb_schema.proofs.{Numbers.slice_get_some, Numbers.neither_below, Blank.blank_field, OrderLemmas.once_permuted, PositionLemmas.found_position, PositionLemmas.no_position}
+use Rattle.fb_schema.proofs.Search.{nat_tied, search_missed, not_true}
 
 contains_cases : {X : Type 0} (y z : X) (ys : List X) → Contains (y ∷ ys) z → (y ≡ z) ⊎ Contains ys z
 contains_cases y z ys (zero, lt, e) = inl e

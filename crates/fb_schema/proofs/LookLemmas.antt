@@ -1,12 +1,9 @@
 -- What the look-ups read.
-use Rattle.std.proofs.Common.{◌≡◌, Bool, ℕ, ℤ, pos, negsuc, Bor, Option, None, option_map, zero, suc, ◌<◌, ◌≤◌, ◌^◌, List, [], ◌∷◌, length, get_or, slice_get, map, Some, IsTrue, sym, subst, ◌∙◌, ap, arith}
+use Rattle.std.proofs.Common.{◌≡◌, Bool, false, true, refl, ℕ, ℤ, pos, negsuc, Bor, Option, None, option_map, zero, suc, ◌<◌, ◌≤◌, ◌^◌, List, [], ◌∷◌, length, get_or, slice_get, map, Some, IsTrue, sym, subst, ◌∙◌, ap, arith}
 use Rattle.std.proofs.lemmas.{Option.slice_get-map, Option.slice_get_past, List.length-map}
-use Rattle.fb_schema.specs.declared.views.Step.{Step}
-use Rattle.fb_schema.specs.declared.flat.{FlatRows.FlatRows, RowLists.RowLists}
-use Rattle.fb_schema.specs.FlatRows.{object_in, enum_in, flat_rows, borrowed_rows}
-use Rattle.fb_schema.specs.Live.{Live, live_of, live_in, live_rows, live_fields, widest, widest_of}
-use Rattle.fb_schema.specs.Rows.{Rows, Object, entry_at, is_table, is_some_table, Enum, is_union, is_some_union}
-use Rattle.fb_schema.specs.Steps.{step_of, are_plain, is_plain}
+use Rattle.fb_schema.specs.{declared.views.Step.Step, declared.flat.FlatRows.FlatRows, declared.flat.RowLists.RowLists, FlatRows.object_in, FlatRows.enum_in, FlatRows.flat_rows}
+use Rattle.fb_schema.specs.{FlatRows.borrowed_rows, Live.Live, Live.live_of, Live.live_in, Live.live_rows, Live.live_fields, Live.widest, Live.widest_of, Rows.Rows, Rows.Object}
+use Rattle.fb_schema.specs.{Rows.entry_at, Rows.is_table, Rows.is_some_table, Rows.Enum, Rows.is_union, Rows.is_some_union, Steps.step_of, Steps.are_plain, Steps.is_plain}
 use Rattle.fb_schema.proofs.Kept.{kept_fewer}
 
 -- rows that are lent are the same
@@ -55,26 +52,22 @@ pub entry_found : {X Y : Type 0} (f : X → Y) (xs : List X) (index : ℤ) (foun
 entry_found f xs (pos k) found e = grind (arith, slice_get-map f xs k, e)
 entry_found f xs (negsuc k) found e = grind (arith, e)
 
-table_in : (os : List Object) (n : ℕ) → IsTrue (is_some_table (slice_get os n)) → n < length os
-table_in [] n h = absurd cc
-table_in (o ∷ os) zero h = omega arith
-table_in (o ∷ os) (suc n) h = let e = table_in os n h in omega arith
+-- what is at a place passes a test that nothing fails only where an item stands there
+listed_at : {X : Type 0} (p : Option X → Bool) → p None ≡ false → (xs : List X) (n : ℕ) → IsTrue (p (slice_get xs n)) → n < length xs
+listed_at p none [] n h = absurd (let w : false ≡ true = sym none ∙ h in cc)
+listed_at p none (x ∷ xs) zero h = omega arith
+listed_at p none (x ∷ xs) (suc n) h = let e = listed_at p none xs n h in omega arith
 
 -- a list with an item for each object reaches as far as the tables
 pub table_listed : {Y : Type 0} (lists : List Y) (rows seen : Rows) (n : ℕ) → length lists ≡ length rows.objects → rows ≡ seen → IsTrue (is_table seen n) → n < length lists
 table_listed lists rows seen n long same t =
-    let lt = table_in rows.objects n (subst (λ r. IsTrue (is_table r n)) (sym same) t) in
+    let lt = listed_at is_some_table refl rows.objects n (subst (λ r. IsTrue (is_table r n)) (sym same) t) in
     omega (arith, lt, long)
-
-union_in : (es : List Enum) (n : ℕ) → IsTrue (is_some_union (slice_get es n)) → n < length es
-union_in [] n h = absurd cc
-union_in (e ∷ es) zero h = omega arith
-union_in (e ∷ es) (suc n) h = let lt = union_in es n h in omega arith
 
 -- the same of what is made of the enums and of unions
 pub union_within : {X : Type 0} (f : X → Enum) (enums : List X) (rows seen : Rows) (n : ℕ) → rows.enums ≡ map f enums → rows ≡ seen → IsTrue (is_union seen n) → n < length enums
 union_within f enums rows seen n made same u =
-    let lt = union_in rows.enums n (subst (λ r. IsTrue (is_union r n)) (sym same) u) in
+    let lt = listed_at is_some_union refl rows.enums n (subst (λ r. IsTrue (is_union r n)) (sym same) u) in
     let as_long = ap length made ∙ length-map enums f in
     omega (arith, lt, as_long)
 

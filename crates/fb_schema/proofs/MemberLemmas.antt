@@ -1,15 +1,12 @@
 -- The steps of the walk over the members of a union.
 use Rattle.std.proofs.Common.{◌≡◌, ℕ, ◌<◌, pos, ◌⊎◌, inl, inr, Bool, true, false, not, ◌&&◌, List, [], ◌∷◌, slice_get, take, map, Option, Some, None, refl, sym, ◌∙◌, ap, Decides, arith, bytes_eq, Ordering, Equal, ◌||◌}
-use Rattle.fb_schema.proofs.{DemandLaws.clear_line, KeyLemmas.test_from_again, KeyLemmas.is_at_test, KeyLemmas.never_again}
-use Rattle.fb_schema.proofs.{Numbers.slice_get_some, Numbers.all_true, WalkLemmas.names_agree, WalkLemmas.mapped_at, WalkLemmas.values_agree}
-use Rattle.std.proofs.lemmas.{List.length-map}
-use Rattle.std.specs.{Cmp.signed_Decides, List.list_any}
-use Rattle.std.specs.Ordering.{int_cmp, bool_cmp, int_eq, is_eq, ordering_then}
-use Rattle.fb_schema.specs.declared.rows.MemberRow.{MemberRow}
-use Rattle.fb_schema.specs.Sorting.{IsAgain, IsFirstAgain, name_cmp, member_cmp, member_value, member_key}
-use Rattle.fb_schema.specs.Rows.{Rows, Member, member_of_row}
-use Rattle.fb_schema.specs.Demands.{is_at, first_code, stands_before, same_value, same_member_name, Demand, member_demands, members_asked}
-use Rattle.std.proofs.lemmas.List.Folds.{Any-from_list_any, list_any-from_Any}
+use Rattle.fb_schema.proofs.{DemandLaws.clear_line, KeyLemmas.test_from_again, KeyLemmas.is_at_test, KeyLemmas.never_again, Numbers.slice_get_some, Numbers.all_true}
+use Rattle.fb_schema.proofs.WalkLemmas.{names_agree, mapped_at, values_agree}
+use Rattle.std.proofs.lemmas.List.{length-map, Folds.Any-from_list_any, Folds.list_any-from_Any}
+use Rattle.std.specs.{Cmp.signed_Decides, List.list_any, Ordering.int_cmp, Ordering.bool_cmp, Ordering.int_eq, Ordering.is_eq, Ordering.ordering_then}
+use Rattle.fb_schema.specs.{declared.rows.MemberRow.MemberRow, Sorting.IsAgain, Sorting.IsFirstAgain, Sorting.name_cmp, Sorting.member_cmp, Sorting.member_value}
+use Rattle.fb_schema.specs.{Sorting.member_key, Rows.Rows, Rows.Member, Rows.member_of_row, Demands.is_at, Demands.first_code, Demands.stands_before, Demands.same_value}
+use Rattle.fb_schema.specs.Demands.{same_member_name, Demand, member_demands, members_asked}
 
 -- both rows stand for the union without a value, or neither does, and they have one name
 abbrev same_key : Member → Member → Bool

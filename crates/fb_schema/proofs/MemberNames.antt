@@ -2,14 +2,11 @@
 use Rattle.std.proofs.Common.{◌≡◌, ℕ, zero, suc, ◌<◌, ℤ, pos, negsuc, Bool, true, false, ◌&&◌, ◌||◌, int_lt, unsigned_abs, List, length, get_or, slice_get, filter, map, Some, None, refl, ◌∙◌, ap, arith, find, Decides, FitsSigned, w64, Bor, option_map, bytes_eq, Equal, Option, option_and_then}
 use Rattle.std.proofs.lemmas.{Bool.Decides.nat_tests, Cmp.on_total, Cmp.then_total, Option.slice_get-get_or}
 use Rattle.std.specs.{Cmp.IsTotalOrder, Cmp.bool_cmp_total, Ordering.int_eq, Ordering.bool_cmp, Ordering.is_eq}
-use Rattle.fb_schema.specs.declared.{flat.EnumPart.EnumPart, rows.MemberRow.MemberRow}
-use Rattle.fb_schema.specs.{Demands.first_code, Demands.members_asked, Demands.member_demands, Sorting.IsPlaceOf}
-use Rattle.fb_schema.specs.{Members.is_member_value, Members.member_named, Sorting.name_cmp, Sorting.member_cmp, Sorting.member_key}
-use Rattle.fb_schema.specs.{Rows.Rows, Rows.Member, Rows.member_of_row, Flat.part, FlatRows.enum_in}
-use Rattle.fb_schema.proofs.{DemandLaws.clear_line, FindLemmas.find_filter}
-use Rattle.fb_schema.proofs.{MemberLemmas.name_not_again, MemberLemmas.clear_demands, MemberLemmas.both_equal, PlaceLemmas.place_find}
-use Rattle.fb_schema.proofs.{Numbers.both_true}
-use Rattle.fb_schema.proofs.{UnionLemmas.members_read, WalkLemmas.names_agree, WalkLemmas.names_total}
+use Rattle.fb_schema.specs.{declared.flat.EnumPart.EnumPart, declared.rows.MemberRow.MemberRow, Demands.first_code, Demands.members_asked, Demands.member_demands}
+use Rattle.fb_schema.specs.{Sorting.IsPlaceOf, Members.is_member_value, Members.member_named, Sorting.name_cmp, Sorting.member_cmp, Sorting.member_key, Rows.Rows, Rows.Member}
+use Rattle.fb_schema.specs.{Rows.member_of_row, Flat.part, FlatRows.enum_in}
+use Rattle.fb_schema.proofs.{DemandLaws.clear_line, FindLemmas.find_filter, MemberLemmas.name_not_again, MemberLemmas.clear_demands, MemberLemmas.both_equal}
+use Rattle.fb_schema.proofs.{PlaceLemmas.place_find, Numbers.both_true, UnionLemmas.members_read, WalkLemmas.names_agree, WalkLemmas.names_total}
 
 pub members_total : IsTotalOrder member_cmp
 members_total = then_total (on_total (λ (m : Bool × Bor (List ℕ)). m.0) bool_cmp_total) (on_total (λ (m : Bool × Bor (List ℕ)). m.1) names_total)

@@ -1,17 +1,13 @@
 -- The live fields of a legal table are found by name.
 use Rattle.std.proofs.Common.{◌≡◌, ℕ, zero, suc, ◌<◌, true, false, IsTrue, if◌then◌else◌, List, [], ◌∷◌, length, get_or, slice_get, map, filter, option_map, option_and_then, Option, Some, refl, sym, ◌∙◌, ap, arith, nat_cmp, Equal}
-use Rattle.fb_schema.proofs.{RowLemmas.rises_at}
-use Rattle.fb_schema.proofs.{Kinded.live_long, Kinded.live_at, WalkLemmas.mapped_at}
-use Rattle.std.proofs.lemmas.{List.length-map, List.get_or-map, Option.slice_get-get_or, List.Elements.Contains-get_or}
-use Rattle.std.proofs.lemmas.{Map.Lookups.exact_bytes}
+use Rattle.fb_schema.proofs.{RowLemmas.rises_at, Kinded.live_long, Kinded.live_at, WalkLemmas.mapped_at, LiveLemmas.sorted_rises, LiveLemmas.sorted_members}
+use Rattle.fb_schema.proofs.{LiveLemmas.filter_apart, LiveLemmas.filter_contains, Numbers.get_or_default, Numbers.slice_get_some, Numbers.negated, LegalLemmas.legal_slots}
+use Rattle.fb_schema.proofs.LegalLemmas.{legal_names}
+use Rattle.std.proofs.lemmas.{List.length-map, List.get_or-map, Option.slice_get-get_or, List.Elements.Contains-get_or, Map.Lookups.exact_bytes}
 use Rattle.std.specs.Cmp.Lexicographic.{slice_cmp}
-use Rattle.fb_schema.specs.declared.{kinds.Kind.Kind, flat.ObjectPart.ObjectPart, views.FieldView.FieldView, rows.FieldRow.FieldRow}
-use Rattle.fb_schema.specs.Demands.{IsLegal}
-use Rattle.fb_schema.specs.{Index.view_name, Kinds.kind_of, Sorting.IsAgain, Sorting.name_cmp, Flat.part, FlatRows.object_in}
-use Rattle.fb_schema.specs.Live.{Live, by_slot, is_live, live_rows, live_as, live_of, live_of_view, live_in, AreApart}
-use Rattle.fb_schema.specs.Rows.{Rows, Field, field_of, is_some_table}
-use Rattle.fb_schema.proofs.LiveLemmas.{sorted_rises, sorted_members, filter_apart, filter_contains}
-use Rattle.fb_schema.proofs.{Numbers.get_or_default, Numbers.slice_get_some, Numbers.negated, LegalLemmas.legal_slots, LegalLemmas.legal_names}
+use Rattle.fb_schema.specs.{declared.kinds.Kind.Kind, declared.flat.ObjectPart.ObjectPart, declared.views.FieldView.FieldView, declared.rows.FieldRow.FieldRow, Demands.IsLegal}
+use Rattle.fb_schema.specs.{Index.view_name, Kinds.kind_of, Sorting.IsAgain, Sorting.name_cmp, Flat.part, FlatRows.object_in, Live.Live, Live.by_slot, Live.is_live, Live.live_rows}
+use Rattle.fb_schema.specs.{Live.live_as, Live.live_of, Live.live_of_view, Live.live_in, Live.AreApart, Rows.Rows, Rows.Field, Rows.field_of, Rows.is_some_table}
 
 -- no two live fields have one name, where no two fields have
 live_names : (fields : List Field) → AreApart fields → ((i j : ℕ) (d : Field) → i < length fields → j < length fields → (get_or fields i d).name ≡ (get_or fields j d).name → i ≡ j)

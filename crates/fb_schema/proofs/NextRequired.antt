@@ -1,12 +1,10 @@
 -- The next required field of a table, from a place on.
 use Rattle.std.proofs.Common.{◌≡◌, ℕ, ◌+◌, ◌<◌, ◌≤◌, Bool, true, false, not, cond, nat_lt, List, [], ◌∷◌, length, drop, map, get_or, slice_get, set, position, option_map, IsTrue, Option, Some, None, refl, sym, ◌∙◌, ap, subst, arith, length-drop, Bor, drop_of_length-le}
 use Rattle.std.specs.{List.position_or_len, Slice.IsItemAt}
-use Rattle.std.proofs.Math.Seq.{drop-length}
-use Rattle.std.proofs.lemmas.{Bool.Decides.nat_tests, Option.slice_get-get_or, Option.slice_get_within, Option.get_or_from_slice_get}
+use Rattle.std.proofs.{Math.Seq.drop-length, lemmas.Bool.Decides.nat_tests, lemmas.Option.slice_get-get_or, lemmas.Option.slice_get_within, lemmas.Option.get_or_from_slice_get}
 use Rattle.std.proofs.lemmas.{List.at_drop_more, List.length-map, List.get_or-map, Grind.common_steps}
-use Rattle.fb_schema.specs.{Index.AreNextRequired, Index.AreMatched}
-use Rattle.fb_schema.specs.Live.{Live, live_in, live_fields, next_required_of}
-use Rattle.fb_schema.specs.Rows.{Rows, Object, is_table, is_some_table}
+use Rattle.fb_schema.specs.{Index.AreNextRequired, Index.AreMatched, Live.Live, Live.live_in, Live.live_fields, Live.next_required_of, Rows.Rows, Rows.Object, Rows.is_table}
+use Rattle.fb_schema.specs.Rows.{is_some_table}
 
 abbrev pub is_required : Live → Bool
 is_required f = f.required

@@ -1,8 +1,8 @@
 -- Small facts on numbers and lists that the other files share.
-use Rattle.std.proofs.Common.{◌≡◌, ℕ, ◌<◌, ◌≤◌, ◌⊎◌, inl, inr, List, length, slice_get, Some, arith, Bool, true, false, not, ◌&&◌}
+use Rattle.std.proofs.Common.{◌≡◌, ℕ, ◌<◌, ◌≤◌, ◌⊎◌, inl, inr, List, length, slice_get, Some, arith, Bool, true, false, not}
 use Rattle.std.proofs.lemmas.Option.{slice_get_cases}
 pub use Rattle.std.proofs.lemmas.List.{get_or_default}
-pub use Rattle.std.proofs.lemmas.Option.{slice_get_past}
+pub use Rattle.std.proofs.lemmas.{Bool.and_from as all_true, Bool.and_parts as both_true, Option.slice_get_past}
 
 pub lt_or_eq : (a b : ℕ) → a ≤ b → (a < b) ⊎ (a ≡ b)
 lt_or_eq a b h = grind arith
@@ -20,12 +20,6 @@ neither_below i j a b = grind (arith, a, b)
 -- what a test says that is true, or that is false
 pub not_false : (b : Bool) → not b ≡ false → b ≡ true
 not_false b h = grind arith
-
-pub all_true : (a b : Bool) → a ≡ true → b ≡ true → (a && b) ≡ true
-all_true a b e h = grind arith
-
-pub both_true : (a b : Bool) → (a && b) ≡ true → (a ≡ true) × (b ≡ true)
-both_true a b h = grind arith
 
 pub negated : (b : Bool) → not b ≡ true → b ≡ false
 negated b h = grind arith

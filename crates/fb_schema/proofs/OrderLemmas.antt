@@ -1,10 +1,8 @@
 -- What the order of a list of keys says of the keys.
 use Rattle.std.proofs.Common.{◌≡◌, ℕ, zero, suc, ◌+◌, ◌-◌, ◌<◌, ◌≤◌, true, false, List, [], ◌∷◌, length, get_or, refl, sym, ◌∙◌, ap, subst, arith, add-zero, zero-add, Option, Some, None, MatchOption, min, max, inl, inr, Contains, swap, Ordering, Equal, IsPermutation}
-use Rattle.std.proofs.lemmas.{Cmp.nat_cmp_total, Cmp.then_total, Cmp.on_total, List.Elements.Contains-get_or}
-use Rattle.std.proofs.lemmas.List.Edits.{swapped_from_swap, length-swap}
+use Rattle.std.proofs.lemmas.{Cmp.nat_cmp_total, Cmp.then_total, Cmp.on_total, List.Elements.Contains-get_or, List.Edits.swapped_from_swap, List.Edits.length-swap}
 use Rattle.std.proofs.lemmas.List.Sorted.{sorted_far, ranks_by, Contains-permutation, IsPermutation-sym, IsPermutation-keeps}
-use Rattle.std.specs.Cmp.{IsTotalOrder, IsStrictWeakOrder}
-use Rattle.std.specs.Ordering.{nat_cmp, ordering_then, is_lt, ordering_reverse}
+use Rattle.std.specs.{Cmp.IsTotalOrder, Cmp.IsStrictWeakOrder, Ordering.nat_cmp, Ordering.ordering_then, Ordering.is_lt, Ordering.ordering_reverse}
 use Rattle.fb_schema.specs.Sorting.{entry_cmp, numbered, IsOrderOf, IsAgain, IsFirstAgain}
 use Rattle.fb_schema.proofs.Numbers.{lt_or_eq, le_or_lt, get_or_default, slice_get_some}
 

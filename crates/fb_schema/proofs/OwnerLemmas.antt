@@ -1,12 +1,11 @@
 -- The steps of the walk over objects and enums.
 use Rattle.std.proofs.Common.{◌≡◌, ℕ, zero, suc, ◌+◌, ◌<◌, ◌≤◌, inl, inr, Bool, List, slice_get, map, Option, Some, None, refl, sym, ◌∙◌, ap, subst, arith, Result, Ok, Err, OnOk}
-use Rattle.fb_schema.specs.declared.{fault.Code.Code, flat.ObjectPart.ObjectPart, rows.FieldRow.FieldRow}
-use Rattle.fb_schema.specs.Sorting.{IsAgain, IsFirstAgain, name_cmp, object_name}
-use Rattle.fb_schema.specs.{FlatRows.object_in, Rows.Rows, Rows.Enum}
-use Rattle.fb_schema.specs.Demands.{is_at, first_code, stands_before, same_object_name, object_demands, demands_of_object, demands_of_enum, demands_of_field, demands_of_union, demands_at, IsFirstOf, IsFirstIllegal, IsLegal, AreClear}
+use Rattle.fb_schema.specs.{declared.fault.Code.Code, declared.flat.ObjectPart.ObjectPart, declared.rows.FieldRow.FieldRow, Sorting.IsAgain, Sorting.IsFirstAgain, Sorting.name_cmp}
+use Rattle.fb_schema.specs.{Sorting.object_name, FlatRows.object_in, Rows.Rows, Rows.Enum, Demands.is_at, Demands.first_code, Demands.stands_before, Demands.same_object_name}
+use Rattle.fb_schema.specs.Demands.{object_demands, demands_of_object, demands_of_enum, demands_of_field, demands_of_union, demands_at, IsFirstOf, IsFirstIllegal, IsLegal}
+use Rattle.fb_schema.specs.Demands.{AreClear}
 use Rattle.fb_schema.proofs.DemandLaws.{IsClear, AreLevelsClear, AreClearBelow, clear_line, first_illegal, is_legal, no_levels, past_owners, owners_end, levels_end, past_levels}
-use Rattle.fb_schema.proofs.{KeyLemmas.is_at_test, KeyLemmas.never_again, Numbers.le_or_lt, Numbers.lt_or_eq}
-use Rattle.fb_schema.proofs.WalkLemmas.{object_names_agree, mapped_at}
+use Rattle.fb_schema.proofs.{KeyLemmas.is_at_test, KeyLemmas.never_again, Numbers.le_or_lt, Numbers.lt_or_eq, WalkLemmas.object_names_agree, WalkLemmas.mapped_at}
 
 pub all_owners : (rows : Rows) (level n : ℕ) → owners_end rows level ≤ n → AreClearBelow rows level n → AreClear rows level
 all_owners rows level n le clear = record { at = λ m place. elim (le_or_lt n m) [ inl past ↦ past_owners rows level m place (omega arith) | inr lt ↦ clear.at m place lt ] }

@@ -2,13 +2,11 @@
 use Rattle.std.proofs.Common.{◌≡◌, ◌<◌, ℕ, suc, ◌+◌, ◌*◌, ◌≤◌, ℤ, pos, negsuc, ◌+ℤ◌, ◌*ℤ◌, Bool, true, false, not, ◌&&◌, ◌||◌, int_lt, length, slice_get, Option, Some, None, refl, sym, ◌∙◌, ap, subst, arith, unsigned_abs, IfSome, option_map}
 use Rattle.fb_schema.proofs.KindWords.{Kind, Struct, Table, Structs, Tables, Element, OfScalar, OfObject, Shape, One, Vector, Array}
 use Rattle.fb_schema.proofs.{KindLemmas.object_kinds, Numbers.not_false, DemandLaws.clear_line, LegalLemmas.legal_clear}
-use Rattle.std.proofs.lemmas.{Option.slice_get_within, Bool.Decides.nat_tests}
-use Rattle.fb_schema.specs.declared.views.PartView.{PartView}
-use Rattle.fb_schema.specs.Demands.{IsLegal, first_code, object_demands, struct_field_demands, stands_before, same_field_name, is_inline, is_object, is_alignment, shape_bytes, element_bytes, inline_bytes, bytes_in, names_table}
-use Rattle.fb_schema.specs.Kinds.{scalar_size, struct_size, size_in, shape_of, shape_kind, object_kind}
-use Rattle.fb_schema.specs.Parts.{PartFits, part_at, part_count, part_kind, part_of, parts_in, parts_of}
-use Rattle.fb_schema.specs.Rows.{Field, Object, Rows, entry_at, is_some_table}
-use Rattle.std.proofs.lemmas.Option.{same_Some, option_and_then_some}
+use Rattle.std.proofs.lemmas.{Option.slice_get_within, Bool.Decides.nat_tests, Option.same_Some, Option.option_and_then_some}
+use Rattle.fb_schema.specs.{declared.views.PartView.PartView, Demands.IsLegal, Demands.first_code, Demands.object_demands, Demands.struct_field_demands, Demands.stands_before}
+use Rattle.fb_schema.specs.Demands.{same_field_name, is_inline, is_object, is_alignment, shape_bytes, element_bytes, inline_bytes, bytes_in, names_table}
+use Rattle.fb_schema.specs.{Kinds.scalar_size, Kinds.struct_size, Kinds.size_in, Kinds.shape_of, Kinds.shape_kind, Kinds.object_kind, Parts.PartFits, Parts.part_at}
+use Rattle.fb_schema.specs.{Parts.part_count, Parts.part_kind, Parts.part_of, Parts.parts_in, Parts.parts_of, Rows.Field, Rows.Object, Rows.Rows, Rows.entry_at, Rows.is_some_table}
 
 -- the field at place i of struct k, with its object
 record IsPartRow (rows : Rows) (k i : ℕ) (f : Field) : Type 0 where

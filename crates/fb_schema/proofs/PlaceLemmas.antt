@@ -1,12 +1,11 @@
 -- Keys are found by their order.
 use Rattle.std.proofs.Common.{◌≡◌, ℕ, ◌<◌, Bool, List, length, get_or, map, Option, Some, None, sym, ◌∙◌, ap, arith, position, Decides, HoldsAt, Ordering, Less, Equal, Greater, slice_get, option_and_then, find}
-use Rattle.fb_schema.proofs.{KeyLemmas.again_at, Numbers.get_or_default, Numbers.slice_get_some, Numbers.neither_below}
-use Rattle.fb_schema.proofs.{OrderLemmas.is_key, OrderLemmas.stands, PositionLemmas.found_position, PositionLemmas.no_position, Search.search_missed}
+use Rattle.fb_schema.proofs.{KeyLemmas.again_at, Numbers.get_or_default, Numbers.slice_get_some, Numbers.neither_below, OrderLemmas.is_key, OrderLemmas.stands}
+use Rattle.fb_schema.proofs.{PositionLemmas.found_position, PositionLemmas.no_position, Search.search_missed, FindLemmas.find_by_position}
 use Rattle.std.proofs.lemmas.{List.length-map, List.get_or-map, Option.slice_get-get_or}
-use Rattle.std.specs.{Cmp.IsTotalOrder, List.Sorted.IsSortedBy, List.Sorted.IsNonDecreasingBy, List.Sorted.IsPartitionPoint}
-use Rattle.std.specs.Ordering.{is_lt, ordering_index, ordering_reverse}
+use Rattle.std.specs.{Cmp.IsTotalOrder, List.Sorted.IsSortedBy, List.Sorted.IsNonDecreasingBy, List.Sorted.IsPartitionPoint, Ordering.is_lt, Ordering.ordering_index}
+use Rattle.std.specs.Ordering.{ordering_reverse}
 use Rattle.fb_schema.specs.Sorting.{IsOrderOf, IsPlaceOf, IsAgain}
-use Rattle.fb_schema.proofs.FindLemmas.{find_by_position}
 
 module _ {K : Type 0} (R : K → K → Ordering) (o : IsTotalOrder R) (keys : List K) (order : List (K × ℕ)) (h : IsOrderOf R keys order) (key : K) where
   keys_rise : IsSortedBy (λ (a b : K × ℕ). is_lt (R a.0 b.0)) order

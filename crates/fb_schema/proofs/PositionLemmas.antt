@@ -1,16 +1,8 @@
--- The place of the one item that passes a test.
+-- The place of the first item that passes a test.
 use Rattle.std.proofs.Common.{◌≡◌, ℕ, ◌<◌, ◌≤◌, inl, inr, Bool, true, false, not, cond, ◌+◌, List, [], ◌∷◌, length, get_or, map, Option, Some, None, refl, sym, ◌∙◌, ap, arith, position}
 use Rattle.std.proofs.lemmas.{List.length-map, List.Quantifiers.position-Some, List.Sums.fails_before_first, Grind.common_steps}
 use Rattle.std.specs.List.{position_or_len}
-use Rattle.fb_schema.proofs.Numbers.{le_or_lt, lt_or_eq, slice_get_some, get_or_default}
-
-pub found_position : {X : Type 0} (p : X → Bool) (xs : List X) (k : ℕ) (d : X) → k < length xs → p (get_or xs k d) ≡ true → ((j : ℕ) → j < length xs → p (get_or xs j d) ≡ true → j ≡ k) → position p xs ≡ Some k
-found_position p xs k d lt passes only =
-    let i = position_or_len p xs in
-    let upto : i ≤ k = elim (le_or_lt i k) [ inl le ↦ le | inr before ↦ absurd (let w : true ≡ false = sym passes ∙ fails_before_first p xs k d before in cc) ] in
-    let at : position p xs ≡ Some i = let inside : i < length xs = omega arith in grind (arith, common_steps) in
-    let w = position-Some p xs i d at in
-    at ∙ ap Some (only i w.0 w.1)
+use Rattle.fb_schema.proofs.{Numbers.le_or_lt, Numbers.lt_or_eq, Numbers.slice_get_some, Numbers.get_or_default, Search.not_true}
 
 -- the first that passes
 pub first_position : {X : Type 0} (p : X → Bool) (xs : List X) (k : ℕ) (d : X) → k < length xs → p (get_or xs k d) ≡ true → ((j : ℕ) (e : X) → j < k → p (get_or xs j e) ≡ false) → position p xs ≡ Some k
@@ -19,6 +11,10 @@ first_position p xs k d lt passes before =
     let upto : i ≤ k = elim (le_or_lt i k) [ inl le ↦ le | inr beyond ↦ absurd (let w : true ≡ false = sym passes ∙ fails_before_first p xs k d beyond in cc) ] in
     let at : position p xs ≡ Some i = let inside : i < length xs = omega arith in grind (arith, common_steps) in
     at ∙ ap Some (elim (lt_or_eq i k upto) [ inl low ↦ absurd (let w : true ≡ false = sym (position-Some p xs i d at).1 ∙ before i d low in cc) | inr same ↦ same ])
+
+-- the one that passes
+pub found_position : {X : Type 0} (p : X → Bool) (xs : List X) (k : ℕ) (d : X) → k < length xs → p (get_or xs k d) ≡ true → ((j : ℕ) → j < length xs → p (get_or xs j d) ≡ true → j ≡ k) → position p xs ≡ Some k
+found_position p xs k d lt passes only = first_position p xs k d lt passes (λ j e low. not_true (p (get_or xs j e)) (λ h. let w = only j (omega arith) (ap p (get_or_default xs j d e (omega arith)) ∙ h) in omega arith))
 
 pub no_position : {X : Type 0} (p : X → Bool) (xs : List X) → ((j : ℕ) (d : X) → j < length xs → p (get_or xs j d) ≡ true → ⊥) → position p xs ≡ None
 no_position p xs never = go (position p xs) refl where

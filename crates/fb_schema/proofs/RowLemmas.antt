@@ -1,12 +1,9 @@
 -- The rows of live fields, and what is demanded of them.
 use Rattle.std.proofs.Common.{◌≡◌, ℕ, zero, suc, ◌<◌, Bool, true, false, not, ◌&&◌, List, [], ◌∷◌, slice_get, filter, Some, None, refl, ◌∙◌, ap, arith, if◌then◌else◌, Contains}
-use Rattle.fb_schema.proofs.{Numbers.negated}
-use Rattle.std.proofs.lemmas.List.Elements.{filter_passes, All-contains}
-use Rattle.std.proofs.lemmas.Option.{slice_get-get_or, slice_get_within, get_or_from_slice_get}
-use Rattle.fb_schema.specs.Demands.{IsLegal}
-use Rattle.fb_schema.specs.{Live.live_rows, Live.by_slot, Live.is_live, Rows.Rows, Rows.Field, Rows.Object}
-use Rattle.fb_schema.proofs.LiveLemmas.{Rises, sorted_rises, sorted_members, filter_contains, filter_apart}
+use Rattle.fb_schema.proofs.{Numbers.negated, LiveLemmas.Rises, LiveLemmas.sorted_rises, LiveLemmas.sorted_members, LiveLemmas.filter_contains, LiveLemmas.filter_apart}
 use Rattle.fb_schema.proofs.LegalLemmas.{IsAsked, legal_slots, table_clear}
+use Rattle.std.proofs.lemmas.{List.Elements.filter_passes, List.Elements.All-contains, Option.slice_get-get_or, Option.slice_get_within, Option.get_or_from_slice_get}
+use Rattle.fb_schema.specs.{Demands.IsLegal, Live.live_rows, Live.by_slot, Live.is_live, Rows.Rows, Rows.Field, Rows.Object}
 
 -- Places of lists.
 pub contains_at : {X : Type 0} (xs : List X) (i : ℕ) (x : X) → slice_get xs i ≡ Some x → Contains xs x
@@ -42,6 +39,7 @@ row_in rows k i o f at here =
 pub asked : (rows : Rows) → IsLegal rows → (k i : ℕ) (o : Object) (f : Field) (r : IsRowOf rows k i o f) → IsAsked rows o f r.place
 asked rows legal k i o f r = table_clear rows legal k o r.at r.table r.place f r.there
 
+-- what is asked where the first test fails
 pub live_line : (a b : Bool) → (not a && b) ≡ false → a ≡ false → b ≡ false
 live_line a b h e = grind arith
 

@@ -1,8 +1,8 @@
 -- What a binary search by a key finds.
-use Rattle.std.proofs.Common.{◌≡◌, ℕ, ◌+◌, ◌-◌, ◌<◌, ◌≤◌, ◌==◌, Bool, true, false, List, length, get_or, refl, sym, ap, ◌∙◌, arith, is_ok, Result, Ok, Err, Ordering, Less, Equal, Greater}
-use Rattle.std.proofs.lemmas.Cmp.{nat_cmp_total, ranked, by_ranked, tied_itself}
-use Rattle.std.proofs.lemmas.{Bool.Decides.Decides-eqb, Bool.Decides.nat_tests, List.Folds.list_any_at, List.Folds.list_any_none}
-use Rattle.std.proofs.lemmas.List.Sorted.{searchable_from_sorted}
+use Rattle.std.proofs.Common.{◌≡◌, ℕ, ◌+◌, ◌-◌, ◌<◌, ◌≤◌, ◌==◌, false, List, length, get_or, refl, sym, ap, ◌∙◌, arith, is_ok, Result, Ok, Err, Ordering, Less, Equal, Greater}
+use Rattle.std.proofs.lemmas.{Cmp.nat_cmp_total, Cmp.ranked, Cmp.by_ranked, Cmp.tied_itself, Bool.Decides.Decides-eqb, Bool.Decides.nat_tests, List.Folds.list_any_at}
+use Rattle.std.proofs.lemmas.List.{Folds.list_any_none, Sorted.searchable_from_sorted}
+pub use Rattle.std.proofs.lemmas.Bool.{false_from_ne_true as not_true}
 use Rattle.std.specs.{List.list_any, Cmp.IsTotalOrder, Ordering.nat_cmp, Ordering.is_lt, Ordering.ordering_index}
 use Rattle.std.specs.List.Sorted.{IsSorted, IsSortedBy, IsNonDecreasingBy, IsPartitionPoint, IsBinarySearchResult, IsSearchInRange}
 
@@ -13,9 +13,6 @@ pub search_missed : {K X : Type 0} (R : K → K → Ordering) (o : IsTotalOrder 
 search_missed R o key xs x at up split k d lt tied =
     let s = split (searchable_from_sorted o key xs x up) in
     grind (arith, s.0 k d, s.1 k d, tied)
-
-pub not_true : (b : Bool) → (b ≡ true → ⊥) → b ≡ false
-not_true b h = grind arith
 
 pub nat_tied : (x y : ℕ) → nat_cmp x y ≡ Equal → x ≡ y
 nat_tied x y h = by_ranked (x < y) (x ≡ y) (y < x) (nat_cmp x y) (ranked x y _ refl) (λ e lt. absurd (let w : Less ≡ Equal = sym e ∙ h in cc)) (λ _ e. e) (λ e lt. absurd (let w : Greater ≡ Equal = sym e ∙ h in cc))

@@ -1,5 +1,5 @@
 -- The slots of a table's type fields are gathered row by row.
-use Rattle.std.proofs.Common.{◌≡◌, ℕ, ◌+◌, ◌<◌, ◌==◌, Bool, true, false, not, ◌&&◌, ◌||◌, List, [], ◌∷◌, ◌++◌, length, get_or, take, map, refl, sym, ◌∙◌, ap}
+use Rattle.std.proofs.Common.{arith, ◌≡◌, ℕ, ◌+◌, ◌<◌, ◌==◌, Bool, true, false, not, ◌&&◌, ◌||◌, List, [], ◌∷◌, ◌++◌, length, get_or, take, map, sym, ◌∙◌, ap}
 use Rattle.std.specs.List.{list_any}
 use Rattle.std.proofs.lemmas.{List.map-append, List.Folds.list_any-append, Grind.take_at_read}
 use Rattle.fb_schema.specs.declared.{rows.FieldRow.FieldRow, kinds.TypeField.TypeField}
@@ -7,22 +7,13 @@ use Rattle.fb_schema.specs.{Rows.Field, Rows.field_of, Kinds.shape_of, Demands.i
 
 -- what the test of one row more adds
 wanted_test : (deprecated is here b : Bool) → deprecated ≡ false → is ≡ true → (b || (((not deprecated && here) && is) || false)) ≡ (b || (here || false))
-wanted_test false true true b e f = refl
-wanted_test false true false b e f = refl
-wanted_test true is here b e f = absurd (let w : true ≡ false = e in cc)
-wanted_test false false here b e f = absurd (let w : false ≡ true = f in cc)
+wanted_test deprecated is here b e f = grind (arith, e, f)
 
 left_dead : (is here b : Bool) → (b || (((not true && here) && is) || false)) ≡ b
-left_dead is here true = refl
-left_dead is here false = refl
+left_dead is here b = grind arith
 
 left_other : (deprecated is here b : Bool) → is ≡ false → (b || (((not deprecated && here) && is) || false)) ≡ b
-left_other deprecated true here b e = absurd (let w : true ≡ false = e in cc)
-left_other true false here b e = left_dead false here b
-left_other false false true true e = refl
-left_other false false true false e = refl
-left_other false false false true e = refl
-left_other false false false false e = refl
+left_other deprecated is here b e = grind (arith, e)
 
 module _ (wanted : TypeField) (rows : List FieldRow) (i : ℕ) (d : FieldRow) (slots : List ℕ) (lt : i < length rows) (before : (slot : ℕ) → list_any (λ s. s + 2 == slot) slots ≡ stands_below wanted (map field_of (take i rows)) slot) where
   abbrev pub row : FieldRow

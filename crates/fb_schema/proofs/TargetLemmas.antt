@@ -1,14 +1,11 @@
 -- The targets of a union are found by the values that its members have.
 use Rattle.std.proofs.Common.{◌≡◌, ℕ, ℤ, pos, zero, suc, ◌+◌, ◌<◌, ◌≤◌, ◌==◌, nat_lt, min, if◌then◌else◌, ◌⊎◌, inl, inr, List, [], ◌∷◌, ◌++◌, length, get_or, take, map, true, refl, sym, subst, ◌∙◌, ap, arith, option_and_then, Option, None, int_cmp}
 use Rattle.std.proofs.lemmas.{Option.slice_get_within, List.get_or_append_left, List.get_or_past, List.length_push, Grind.take_at_read, Bool.Decides.nat_tests}
-use Rattle.std.proofs.Math.Seq.{get_or-append_seam}
-use Rattle.fb_schema.specs.declared.{flat.EnumPart.EnumPart, views.Target.Target, rows.MemberRow.MemberRow}
-use Rattle.fb_schema.specs.{Flat.part, Kinds.kind_of, Rows.Rows, Rows.Member, Rows.member_of_row}
+use Rattle.std.proofs.{Math.Seq.get_or-append_seam, lemmas.Cmp.int_cmp_total}
+use Rattle.fb_schema.specs.{declared.flat.EnumPart.EnumPart, declared.views.Target.Target, declared.rows.MemberRow.MemberRow, Flat.part, Kinds.kind_of, Rows.Rows, Rows.Member}
+use Rattle.fb_schema.specs.{Rows.member_of_row, declared.kinds.Kind.Kind, Sorting.IsPlaceOf, Sorting.member_value, Targets.nothing, Targets.place_below, Targets.target_at}
+use Rattle.fb_schema.specs.Targets.{target_of, kind_among, AreSorted, AreTargets, EndsValues, HaveTargets, LeadBelow}
 use Rattle.std.specs.Cmp.{Equal-is, signed_Decides}
-use Rattle.std.proofs.lemmas.Cmp.{int_cmp_total}
-use Rattle.fb_schema.specs.declared.kinds.Kind.{Kind}
-use Rattle.fb_schema.specs.Sorting.{IsPlaceOf, member_value}
-use Rattle.fb_schema.specs.Targets.{nothing, place_below, target_at, target_of, kind_among, AreSorted, AreTargets, EndsValues, HaveTargets, LeadBelow}
 use Rattle.fb_schema.proofs.{IndexLemmas.slice_get_end, OrderLemmas.stands, UnionLemmas.none_for_zero, UnionLemmas.value_place, Numbers.le_or_lt, Numbers.lt_or_eq}
 
 -- the value 0 leads to nothing

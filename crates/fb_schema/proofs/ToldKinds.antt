@@ -1,11 +1,10 @@
 -- The kind of a union's member is told from where it leads.
 use Rattle.std.proofs.Common.{◌≡◌, ℕ, suc, ℤ, pos, negsuc, Bool, true, false, ◌&&◌, List, [], ◌∷◌, slice_get, filter, Option, Some, None, refl, sym, ◌∙◌, ap, find, arith, option_and_then, int_eq, inl, inr}
-use Rattle.fb_schema.proofs.KindWords.{Kind, Shape, One, OfText, OfObject}
-use Rattle.fb_schema.proofs.{Numbers.both_true, DemandLaws.clear_line, FindLemmas.find_filter, UnionLemmas.not_none}
-use Rattle.fb_schema.proofs.{LegalLemmas.legal_clear, MemberLemmas.is_true_or_false}
-use Rattle.fb_schema.specs.Demands.{IsLegal, first_code, members_asked, member_demands, demands_of_member, is_for_member}
-use Rattle.fb_schema.specs.{Kinds.kind_of, Kinds.shape_of, Kinds.shape_kind, Rows.Rows, Rows.Member, Rows.Enum}
-use Rattle.fb_schema.specs.{Members.is_member_value, Members.member_of, Members.members_in, Targets.target_of, Targets.kind_to, Targets.kind_among}
+use Rattle.fb_schema.proofs.{KindWords.Kind, KindWords.Shape, KindWords.One, KindWords.OfText, KindWords.OfObject, Numbers.both_true, DemandLaws.clear_line, FindLemmas.find_filter}
+use Rattle.fb_schema.proofs.{UnionLemmas.real_not_zero, LegalLemmas.legal_clear, MemberLemmas.is_true_or_false}
+use Rattle.fb_schema.specs.{Demands.IsLegal, Demands.first_code, Demands.members_asked, Demands.member_demands, Demands.demands_of_member, Demands.is_for_member, Kinds.kind_of}
+use Rattle.fb_schema.specs.{Kinds.shape_of, Kinds.shape_kind, Rows.Rows, Rows.Member, Rows.Enum, Members.is_member_value, Members.member_of, Members.members_in, Targets.target_of}
+use Rattle.fb_schema.specs.Targets.{kind_to, kind_among}
 
 -- what is found passes the test and stands in the list
 found_with : {X : Type 0} (p : X → Bool) (P : X → Type 0) (xs : List X) → ((j : ℕ) (x : X) → slice_get xs j ≡ Some x → p x ≡ true → P x) → (m : X) → find p xs ≡ Some m → P m
@@ -36,7 +35,7 @@ told_again rows members clear value =
       holds : (j : ℕ) (m : Member) → slice_get members j ≡ Some m → test m ≡ true → is_for_member (shape_of m.ty) ≡ true
       holds j m at t =
           let c = ap first_code (sym (ap (demands_of_member rows members j) at)) ∙ clear j in
-          let real = not_none m.value (both_true (is_member_value m.value) (int_eq m.value (pos value)) t).0 in
+          let real = real_not_zero m.value (both_true (is_member_value m.value) (int_eq m.value (pos value)) t).0 in
           let line = clear_line (member_demands rows m _ _) c 2 _ refl in
           grind (arith, real, line)
 

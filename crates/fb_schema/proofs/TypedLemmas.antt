@@ -2,19 +2,16 @@
 use Rattle.std.proofs.Common.{◌≡◌, ℕ, zero, suc, ◌+◌, ◌*◌, ◌<◌, ◌≤◌, ◌==◌, ◌%◌, ℤ, Bool, true, false, not, ◌&&◌, List, [], ◌∷◌, slice_get, filter, Option, Some, None, refl, sym, ◌∙◌, ap, subst, arith, cond, if◌then◌else◌}
 use Rattle.std.proofs.lemmas.{List.Folds.Any-from_list_any, Bool.Decides.nat_tests}
 use Rattle.std.specs.List.{Contains, list_any}
-use Rattle.fb_schema.specs.declared.{kinds.Scalar.TheVariants.UType, kinds.TypeField.TypeField}
-use Rattle.fb_schema.specs.declared.kinds.TypeField.TheVariants.{ForUnion, ForUnions}
+use Rattle.fb_schema.specs.declared.kinds.{Scalar.TheVariants.UType, TypeField.TypeField, TypeField.TheVariants.ForUnion, TypeField.TheVariants.ForUnions}
 use Rattle.fb_schema.specs.Demands.{IsLegal, table_field_demands, stands_below, is_type_field, lacks_type_field, names_no_union}
-use Rattle.fb_schema.specs.Kinds.{kind_of, shape_of, shape_kind, kind_size, kind_align, scalar_size}
-use Rattle.fb_schema.specs.Live.{Live, live_fields, live_rows, live_as, by_slot, is_live, widest, AreSpaced}
-use Rattle.fb_schema.specs.Rows.{Rows, Field, Object}
-use Rattle.fb_schema.specs.Served.{IsAlignment, KindHolds, HasTypeField, IsTyped, IsServed}
+use Rattle.fb_schema.specs.{Kinds.kind_of, Kinds.shape_of, Kinds.shape_kind, Kinds.kind_size, Kinds.kind_align, Kinds.scalar_size, Live.Live, Live.live_fields, Live.live_rows}
+use Rattle.fb_schema.specs.{Live.live_as, Live.by_slot, Live.is_live, Live.widest, Live.AreSpaced, Rows.Rows, Rows.Field, Rows.Object, Served.IsAlignment, Served.KindHolds}
+use Rattle.fb_schema.specs.Served.{HasTypeField, IsTyped, IsServed}
 use Rattle.fb_schema.proofs.KindWords.{Kind, Scalar, Struct, Union, Scalars, Structs, Unions, OfScalar, Shape, One, Vector}
-use Rattle.fb_schema.proofs.{DemandLaws.clear_line, Kinded.listed, Kinded.row_of, Kinded.field_sized, LiveLemmas.Rises, LiveLemmas.sorted_members}
-use Rattle.fb_schema.proofs.{LookLemmas.within_widest, PartLemmas.parts_fit}
-use Rattle.fb_schema.proofs.KindLemmas.{NamesObject, NamesUnion, member_holds, power_of, HasAsked, is_named}
-use Rattle.fb_schema.proofs.Numbers.{neither_below}
-use Rattle.fb_schema.proofs.RowLemmas.{contains_at, place_in, rises_at, IsRowOf, row_in, asked, live_line, rows_rise}
+use Rattle.fb_schema.proofs.{DemandLaws.clear_line, Kinded.listed, Kinded.row_of, Kinded.field_sized, LiveLemmas.Rises, LiveLemmas.sorted_members, LookLemmas.within_widest}
+use Rattle.fb_schema.proofs.{PartLemmas.parts_fit, KindLemmas.NamesObject, KindLemmas.NamesUnion, KindLemmas.member_holds, KindLemmas.power_of, KindLemmas.HasAsked}
+use Rattle.fb_schema.proofs.{KindLemmas.is_named, Numbers.neither_below, RowLemmas.contains_at, RowLemmas.place_in, RowLemmas.rises_at, RowLemmas.IsRowOf, RowLemmas.row_in}
+use Rattle.fb_schema.proofs.RowLemmas.{asked, live_line, rows_rise}
 
 filter_keeps : {X : Type 0} (p : X → Bool) (xs : List X) (k : ℕ) (z : X) → slice_get xs k ≡ Some z → p z ≡ true → Contains (filter p xs) z
 filter_keeps p [] k z e q = absurd (let w : None ≡ Some z = e in cc)

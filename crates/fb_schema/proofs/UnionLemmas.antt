@@ -1,14 +1,11 @@
 -- The members of a union of legal rows.
 use Rattle.std.proofs.Common.{◌≡◌, ℕ, zero, suc, ◌<◌, ℤ, pos, Bool, true, false, ◌&&◌, List, [], ◌∷◌, slice_get, filter, map, Option, Some, None, IsTrue, refl, sym, ◌∙◌, ap, arith, find, if◌then◌else◌, int_cmp, int_eq, option_and_then}
-use Rattle.fb_schema.proofs.{Search.not_true, FindLemmas.find_filter, LegalLemmas.legal_clear}
-use Rattle.fb_schema.proofs.{MemberLemmas.value_not_again}
-use Rattle.fb_schema.proofs.{WalkLemmas.mapped_at, PlaceLemmas.place_find}
+use Rattle.fb_schema.proofs.{Search.not_true, FindLemmas.find_filter, LegalLemmas.legal_clear, MemberLemmas.value_not_again, WalkLemmas.mapped_at, PlaceLemmas.place_find}
 use Rattle.std.proofs.lemmas.{Bool.Decides.nat_tests, Cmp.int_cmp_total}
 use Rattle.std.specs.Cmp.{Equal-is, signed_Decides}
-use Rattle.fb_schema.specs.declared.{flat.EnumPart.EnumPart, rows.MemberRow.MemberRow}
-use Rattle.fb_schema.specs.{Demands.IsLegal, Demands.first_code, Demands.members_asked, FlatRows.enum_in, Sorting.IsPlaceOf}
-use Rattle.fb_schema.specs.{Kinds.kind_of, Members.is_member_value, Members.member_of, Members.members_in, Sorting.member_value, Flat.part}
-use Rattle.fb_schema.specs.Rows.{Rows, Member, Enum, member_of_row, is_some_union}
+use Rattle.fb_schema.specs.{declared.flat.EnumPart.EnumPart, declared.rows.MemberRow.MemberRow, Demands.IsLegal, Demands.first_code, Demands.members_asked, FlatRows.enum_in}
+use Rattle.fb_schema.specs.{Sorting.IsPlaceOf, Kinds.kind_of, Members.is_member_value, Members.member_of, Members.members_in, Sorting.member_value, Flat.part, Rows.Rows}
+use Rattle.fb_schema.specs.Rows.{Member, Enum, member_of_row, is_some_union}
 
 -- a union's row
 pub union_at : (all : List MemberRow) (enums : List EnumPart) (n : ℕ) → IsTrue (is_some_union (slice_get (map (enum_in all) enums) n)) → (row : EnumPart) × (slice_get enums n ≡ Some row) × (row.is_union ≡ true)
@@ -20,8 +17,8 @@ union_at all (e ∷ es) (suc n) h = union_at all es n h
 pub real_value : (v : ℕ) → 0 < v → v < 256 → is_member_value (pos v) ≡ true
 real_value v a b = grind (arith, nat_tests)
 
-pub not_none : (z : ℤ) → is_member_value z ≡ true → int_eq z (pos 0) ≡ false
-not_none z h = not_true (int_eq z (pos 0)) (λ e. let w : true ≡ false = sym h ∙ ap is_member_value ((signed_Decides z (pos 0)).0 e) in cc)
+pub real_not_zero : (z : ℤ) → is_member_value z ≡ true → int_eq z (pos 0) ≡ false
+real_not_zero z h = not_true (int_eq z (pos 0)) (λ e. let w : true ≡ false = sym h ∙ ap is_member_value ((signed_Decides z (pos 0)).0 e) in cc)
 
 -- no member of a union of legal rows breaks a demand
 pub members_clear : (rows : Rows) (all : List MemberRow) (enums : List EnumPart) → rows.enums ≡ map (enum_in all) enums → IsLegal rows → (n : ℕ) (row : EnumPart) → slice_get enums n ≡ Some row → row.is_union ≡ true → (q : ℕ) → first_code (members_asked rows (map member_of_row (part all row.members)) q) ≡ None
@@ -59,7 +56,7 @@ member_of_row_is rows all enums same n row at union v = ap (λ ms. option_and_th
 
 pub none_for_zero : (ms : List Member) → find (λ m. int_eq m.value (pos 0)) (filter (λ m. is_member_value m.value) ms) ≡ None
 none_for_zero [] = refl
-none_for_zero (m ∷ ms) = grind (arith, not_none m.value, none_for_zero ms)
+none_for_zero (m ∷ ms) = grind (arith, real_not_zero m.value, none_for_zero ms)
 
 pub none_of : (e : Option Enum) → find (λ m. int_eq m.value (pos 0)) (members_in e) ≡ None
 none_of None = refl

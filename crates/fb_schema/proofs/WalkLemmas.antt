@@ -1,15 +1,14 @@
 -- The steps of the walk over the rows.
 use Rattle.std.proofs.Common.{◌≡◌, ℕ, ◌<◌, ◌≤◌, ℤ, inl, inr, Bool, List, [], length, slice_get, map, Option, Some, None, refl, ◌∙◌, ap, arith, Decides, option_map, Bor, nat_cmp, int_cmp, bytes_eq, Equal}
-use Rattle.std.proofs.lemmas.{List.length-map, Option.slice_get-map, Slice.Eq.bytes_eq-Decides, Bool.Decides.Decides-eqb, Map.Lookups.exact_bytes}
-use Rattle.std.proofs.lemmas.Cmp.{nat_list_cmp_total, nat_cmp_total, tied_itself, on_total}
-use Rattle.std.specs.{Cmp.Equal-is, Cmp.IsTotalOrder, Cmp.Lexicographic.slice_cmp}
-use Rattle.fb_schema.specs.declared.{flat.ObjectPart.ObjectPart, rows.FieldRow.FieldRow, rows.MemberRow.MemberRow}
-use Rattle.fb_schema.specs.declared.kinds.TypeField.TheVariants.{ForUnion, ForUnions}
-use Rattle.fb_schema.specs.Sorting.{IsAgain, IsFirstAgain, name_cmp, object_name, field_name, field_slot, member_value}
-use Rattle.fb_schema.specs.{Rows.Rows, Rows.field_of, Rows.member_of_row, FlatRows.object_in}
-use Rattle.fb_schema.specs.Demands.{Demand, is_at, first_code, same_object_name, same_field_name, same_slot, same_value, struct_field_demands, struct_asked, demands_of_struct_field, Demand, table_field_demands, table_asked, demands_of_table_field, stands_below}
-use Rattle.fb_schema.proofs.{DemandLaws.clear_line, KeyLemmas.is_at_test, KeyLemmas.never_again, Numbers.slice_get_past, Numbers.le_or_lt}
-use Rattle.fb_schema.proofs.Search.{nat_tied}
+use Rattle.std.proofs.lemmas.{List.length-map, Option.slice_get-map, Slice.Eq.bytes_eq-Decides, Bool.Decides.Decides-eqb, Map.Lookups.exact_bytes, Cmp.nat_list_cmp_total}
+use Rattle.std.proofs.lemmas.Cmp.{nat_cmp_total, tied_itself, on_total}
+use Rattle.std.specs.Cmp.{Equal-is, IsTotalOrder, Lexicographic.slice_cmp}
+use Rattle.fb_schema.specs.declared.{flat.ObjectPart.ObjectPart, rows.FieldRow.FieldRow, rows.MemberRow.MemberRow, kinds.TypeField.TheVariants.ForUnion}
+use Rattle.fb_schema.specs.{declared.kinds.TypeField.TheVariants.ForUnions, Sorting.IsAgain, Sorting.IsFirstAgain, Sorting.name_cmp, Sorting.object_name, Sorting.field_name}
+use Rattle.fb_schema.specs.{Sorting.field_slot, Sorting.member_value, Rows.Rows, Rows.field_of, Rows.member_of_row, FlatRows.object_in, Demands.Demand, Demands.is_at}
+use Rattle.fb_schema.specs.Demands.{first_code, same_object_name, same_field_name, same_slot, same_value, struct_field_demands, struct_asked, Demand, table_field_demands}
+use Rattle.fb_schema.specs.Demands.{table_asked, demands_of_table_field, stands_below}
+use Rattle.fb_schema.proofs.{DemandLaws.clear_line, KeyLemmas.is_at_test, KeyLemmas.never_again, Numbers.slice_get_past, Numbers.le_or_lt, Search.nat_tied}
 
 pub names_agree : (a b : List ℕ) → Decides (bytes_eq a b) (slice_cmp nat_cmp a b ≡ Equal)
 names_agree a b = (
@@ -59,10 +58,6 @@ module _ (rows : Rows) (bytesize : ℤ) (fields : List FieldRow) where
   struct_code p row first named at h clear n =
       rw (mapped_at field_of fields p row at)
       (ap (λ b. first_code (struct_field_demands rows bytesize (field_of row) b)) (n ∙ is_at_test name_cmp field_name field_of same_field_name field_names_agree fields p row at first h (λ q lt. not_again_struct q (clear q lt))))
-
-  -- past the last field nothing is demanded
-  pub past_struct : (n : ℕ) → length fields ≤ n → ((q : ℕ) → q < n → first_code (struct_asked rows bytesize (map field_of fields) q) ≡ None) → (q : ℕ) → first_code (struct_asked rows bytesize (map field_of fields) q) ≡ None
-  past_struct n le h q = past_list (map field_of fields) (demands_of_struct_field rows bytesize (map field_of fields)) (λ q. refl) n (rw length-map le) h q
 
 -- Tables.
 module _ (rows : Rows) (fields : List FieldRow) where

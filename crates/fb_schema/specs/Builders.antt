@@ -1,7 +1,6 @@
 -- Rows in few words: what the builders of rows make, with everything off that isn't named.
 use Rattle.std.specs.Prelude.{ℕ, ℤ, pos, negsuc, List, true, false}
-use Rattle.fb_schema.specs.declared.rows.TypeRow.{TypeRow}
-use Rattle.fb_schema.specs.Rows.{Field, Object, Member, Enum}
+use Rattle.fb_schema.specs.{declared.rows.TypeRow.TypeRow, Rows.Field, Rows.Object, Rows.Member, Rows.Enum}
 
 -- the type of one value that names nothing
 abbrev pub type_of_one : ℤ → TypeRow

@@ -2,14 +2,12 @@
 use Rattle.std.specs.Prelude.{◌≡◌, ℕ, zero, suc, ◌+◌, ◌%◌, ◌<◌, ◌⊎◌, ℤ, pos, negsuc, ◌+ℤ◌, ◌*ℤ◌, int_lt, Bool, true, false, not, ◌&&◌, ◌||◌}
 use Rattle.std.specs.Prelude.{◌==◌, nat_lt, if◌then◌else◌, List, [], ◌∷◌, take, slice_get, Option, Some, None, is_none, bytes_eq}
 use Rattle.std.specs.{List.list_any, Ordering.int_eq}
-use Rattle.fb_schema.specs.declared.{rows.TypeRow.TypeRow, kinds.Scalar.TheVariants.UType, kinds.Element.Element, kinds.Shape.Shape}
-use Rattle.fb_schema.specs.declared.kinds.Shape.TheVariants.{One, Vector, Array}
-use Rattle.fb_schema.specs.declared.{kinds.TypeField.TypeField, kinds.TypeField.TheVariants.ForUnion, kinds.TypeField.TheVariants.ForUnions}
-use Rattle.fb_schema.specs.declared.{fault.Code.Code, fault.SchemaFault.SchemaFault}
-use Rattle.fb_schema.specs.declared.kinds.Element.TheVariants.{Scalar as OfScalar, Text as OfText, Object as OfObject, Union as OfUnion}
-use Rattle.fb_schema.specs.declared.fault.Code.TheVariants.{NoSuchObject, NoSuchEnum, Unsupported, BadSlot, NoTypeField, BadStruct, BadMember, NameTwice, OutOfMemory}
-use Rattle.fb_schema.specs.Rows.{Field, Object, Member, Enum, Rows, entry_at, is_some_table, is_some_union}
-use Rattle.fb_schema.specs.Kinds.{shape_of, scalar_size}
+use Rattle.fb_schema.specs.declared.{rows.TypeRow.TypeRow, kinds.Scalar.TheVariants.UType, kinds.Element.Element, kinds.Shape.Shape, kinds.Shape.TheVariants.One}
+use Rattle.fb_schema.specs.declared.kinds.{Shape.TheVariants.Vector, Shape.TheVariants.Array, TypeField.TypeField, TypeField.TheVariants.ForUnion, TypeField.TheVariants.ForUnions}
+use Rattle.fb_schema.specs.declared.{fault.Code.Code, fault.SchemaFault.SchemaFault, kinds.Element.TheVariants.Scalar as OfScalar, kinds.Element.TheVariants.Text as OfText}
+use Rattle.fb_schema.specs.declared.{kinds.Element.TheVariants.Object as OfObject, kinds.Element.TheVariants.Union as OfUnion, fault.Code.TheVariants.NoSuchObject}
+use Rattle.fb_schema.specs.declared.fault.Code.TheVariants.{NoSuchEnum, Unsupported, BadSlot, NoTypeField, BadStruct, BadMember, NameTwice, OutOfMemory}
+use Rattle.fb_schema.specs.{Rows.Field, Rows.Object, Rows.Member, Rows.Enum, Rows.Rows, Rows.entry_at, Rows.is_some_table, Rows.is_some_union, Kinds.shape_of, Kinds.scalar_size}
 
 -- a demand of its code, and whether the rows break it
 pub record Demand : Type 0 where

@@ -1,10 +1,8 @@
 -- What rows that stand flat are.
 use Rattle.std.specs.Prelude.{List, All, map, length, ◌<◌, ◌^◌, Option, option_map}
 use Rattle.std.specs.Borrow.{Bor}
-use Rattle.fb_schema.specs.declared.{rows.FieldRow.FieldRow, rows.MemberRow.MemberRow, flat.ObjectPart.ObjectPart, flat.EnumPart.EnumPart}
-use Rattle.fb_schema.specs.declared.{flat.FlatRows.FlatRows, flat.RowLists.RowLists}
-use Rattle.fb_schema.specs.Flat.{part, IsPart}
-use Rattle.fb_schema.specs.Rows.{Rows, Object, Enum, field_of, member_of_row}
+use Rattle.fb_schema.specs.declared.{rows.FieldRow.FieldRow, rows.MemberRow.MemberRow, flat.ObjectPart.ObjectPart, flat.EnumPart.EnumPart, flat.FlatRows.FlatRows}
+use Rattle.fb_schema.specs.{declared.flat.RowLists.RowLists, Flat.part, Flat.IsPart, Rows.Rows, Rows.Object, Rows.Enum, Rows.field_of, Rows.member_of_row}
 
 -- an object with these fields
 abbrev pub object_with : ObjectPart → List FieldRow → Object

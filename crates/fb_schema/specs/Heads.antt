@@ -1,7 +1,6 @@
 -- Objects without their fields.
 use Rattle.std.specs.Prelude.{ℕ, ℤ, Bool, List}
-use Rattle.fb_schema.specs.declared.views.ObjectView.{ObjectView}
-use Rattle.fb_schema.specs.Rows.{Object}
+use Rattle.fb_schema.specs.{declared.views.ObjectView.ObjectView, Rows.Object}
 
 -- what is said of an object before its fields
 pub record Head : Type 0 where

@@ -1,12 +1,9 @@
 -- What the index of a schema has to do with its rows.
 use Rattle.std.specs.Prelude.{[], Bool, if◌then◌else◌, ◌≡◌, ◌+◌, ◌<◌, ◌≤◌, ℕ, List, map, length, drop, slice_index_or, Some, slice_get}
 use Rattle.std.specs.{List.position_or_len, Borrow.Bor}
-use Rattle.fb_schema.specs.declared.{flat.EnumPart.EnumPart, rows.MemberRow.MemberRow, views.FieldView.FieldView, index.LiveIndex.LiveIndex}
-use Rattle.fb_schema.specs.declared.index.MemberIndex.{MemberIndex}
-use Rattle.fb_schema.specs.{Flat.part, FlatLists.lists_of, Steps.step_of, Steps.are_plain, Rows.Rows, Rows.Object}
-use Rattle.fb_schema.specs.Targets.{HaveTargets}
-use Rattle.fb_schema.specs.Live.{Live, live_of_view, live_in, widest_of}
-use Rattle.fb_schema.specs.Sorting.{IsOrderOf, name_cmp, member_cmp, member_key}
+use Rattle.fb_schema.specs.declared.{flat.EnumPart.EnumPart, rows.MemberRow.MemberRow, views.FieldView.FieldView, index.LiveIndex.LiveIndex, index.MemberIndex.MemberIndex}
+use Rattle.fb_schema.specs.{Flat.part, FlatLists.lists_of, Steps.step_of, Steps.are_plain, Rows.Rows, Rows.Object, Targets.HaveTargets, Live.Live, Live.live_of_view, Live.live_in}
+use Rattle.fb_schema.specs.{Live.widest_of, Sorting.IsOrderOf, Sorting.name_cmp, Sorting.member_cmp, Sorting.member_key}
 
 -- the lists are as long, and R holds of the items at each place
 pub record AreMatched {X Y : Type 0} (R : X → Y → Type 0) (xs : List X) (ys : List Y) : Type 0 where

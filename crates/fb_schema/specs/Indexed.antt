@@ -1,8 +1,7 @@
 -- What a schema holds beside its rows.
 use Rattle.std.specs.Prelude.{[], map}
-use Rattle.fb_schema.specs.declared.{flat.FlatRows.FlatRows, flat.RowLists.RowLists, index.Index.Index}
-use Rattle.fb_schema.specs.{Demands.IsLegal, FlatRows.flat_rows, FlatRows.borrowed_rows, FlatRows.AreParts, Index.IsLiveIndex, Index.IsMemberIndex}
-use Rattle.fb_schema.specs.Sorting.{IsOrderOf, name_cmp, object_name}
+use Rattle.fb_schema.specs.{declared.flat.FlatRows.FlatRows, declared.flat.RowLists.RowLists, declared.index.Index.Index, Demands.IsLegal, FlatRows.flat_rows}
+use Rattle.fb_schema.specs.{FlatRows.borrowed_rows, FlatRows.AreParts, Index.IsLiveIndex, Index.IsMemberIndex, Sorting.IsOrderOf, Sorting.name_cmp, Sorting.object_name}
 
 -- the rows are legal, and this is their index
 pub record IsIndexed {A : Type 0} (rows : FlatRows A) (index : Index A) : Type 0 where

@@ -1,8 +1,7 @@
 -- The live fields of a table in rising slot, with what a reader of buffers needs.
 use Rattle.std.specs.Prelude.{◌≡◌, ◌<◌, ◌≤◌, slice_index_or, ℕ, ◌+◌, ◌*◌, ◌-◌, ◌/◌, ℤ, Bool, not, nat_le, ◌==◌, if◌then◌else◌, List, [], ◌∷◌}
 use Rattle.std.specs.Prelude.{filter, length, drop, max, position, slice_get, Option, Some, None, IsSome, option_map, filter_map, bytes_eq}
-use Rattle.fb_schema.specs.declared.{kinds.Kind.Kind, kinds.Kind.TheVariants.Union, kinds.Kind.TheVariants.Unions, views.FieldView.FieldView}
-use Rattle.fb_schema.specs.declared.rows.FieldRow.{FieldRow}
+use Rattle.fb_schema.specs.declared.{kinds.Kind.Kind, kinds.Kind.TheVariants.Union, kinds.Kind.TheVariants.Unions, views.FieldView.FieldView, rows.FieldRow.FieldRow}
 use Rattle.fb_schema.specs.{Rows.Field, Rows.Object, Rows.Rows, Kinds.kind_of, Kinds.kind_size, Kinds.kind_align}
 
 -- a live field: its number, slot and name, its kind with size and alignment, and the place of its type field

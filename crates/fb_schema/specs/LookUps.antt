@@ -1,12 +1,10 @@
 -- Examples of what look-ups answer of rows.
 use Rattle.std.specs.Prelude.{◌≡◌, ℕ, pos, negsuc, true, false, List, [], ◌∷◌, codes, Option, Some, None}
-use Rattle.fb_schema.specs.declared.kinds.Scalar.TheVariants.{UType, Bool as AsBool, Byte, UByte, Short, UShort, Int, UInt, Long, ULong, Float, Double}
-use Rattle.fb_schema.specs.declared.kinds.Kind.{Kind}
-use Rattle.fb_schema.specs.declared.kinds.Kind.TheVariants.{Scalar, Text, Struct, Table, Union, Scalars, Texts, Structs, Tables, Unions}
-use Rattle.fb_schema.specs.{Rows.Field, Rows.Rows, Members.member_of, Members.member_named, Members.member_name}
-use Rattle.fb_schema.specs.Live.{Live, live_fields, next_required, widest, field_named}
+use Rattle.fb_schema.specs.declared.kinds.{Scalar.TheVariants.UType, Scalar.TheVariants.Short, Scalar.TheVariants.Long, Kind.Kind, Kind.TheVariants.Scalar, Kind.TheVariants.Text}
+use Rattle.fb_schema.specs.declared.kinds.Kind.TheVariants.{Struct, Table, Union, Scalars, Texts, Structs, Tables, Unions}
+use Rattle.fb_schema.specs.{Rows.Rows, Members.member_of, Members.member_named, Members.member_name, Live.Live, Live.live_fields, Live.next_required, Live.widest, Live.field_named}
 use Rattle.fb_schema.specs.Builders.{type_of_one, type_of_vector, plain_field, plain_table, struct_of, plain_member, union_of, enum_of_values}
-use Rattle.fb_schema.specs.Examples.{type_byte, type_bytes, text, object, objects, union, unions, unused, with_objects}
+use Rattle.fb_schema.specs.Examples.{type_byte, type_bytes, text, object, objects, union, unions, unused}
 
 -- a field that is told by its number, slot, name, kind, the size and alignment of that, and the place of its type
 -- field
@@ -23,24 +21,6 @@ live number slot name kind size align companion = record {
   align = align;
   companion = companion;
 }
-
--- a table with these fields
-abbrev pub a_table_of : List Field → Rows
-a_table_of fields = with_objects (plain_table (codes "T") fields ∷ [])
-
--- each scalar has its size, which is its alignment too
-pub record ScalarFields : Type 0 where
-  pub each : live_fields (a_table_of (
-      plain_field (codes "a") 4 (type_of_one (pos 1)) ∷ plain_field (codes "b") 6 (type_of_one (pos 2)) ∷ plain_field (codes "c") 8 (type_of_one (pos 3))
-      ∷ plain_field (codes "d") 10 (type_of_one (pos 4)) ∷ plain_field (codes "e") 12 (type_of_one (pos 5)) ∷ plain_field (codes "f") 14 (type_of_one (pos 6))
-      ∷ plain_field (codes "g") 16 (type_of_one (pos 7)) ∷ plain_field (codes "h") 18 (type_of_one (pos 8)) ∷ plain_field (codes "i") 20 (type_of_one (pos 9))
-      ∷ plain_field (codes "j") 22 (type_of_one (pos 10)) ∷ plain_field (codes "k") 24 (type_of_one (pos 11))
-      ∷ plain_field (codes "l") 26 (type_of_one (pos 12)) ∷ [])) 0
-      ≡ (live 0 4 (codes "a") (Scalar UType) 1 1 None ∷ live 1 6 (codes "b") (Scalar AsBool) 1 1 None ∷ live 2 8 (codes "c") (Scalar Byte) 1 1 None
-      ∷ live 3 10 (codes "d") (Scalar UByte) 1 1 None ∷ live 4 12 (codes "e") (Scalar Short) 2 2 None ∷ live 5 14 (codes "f") (Scalar UShort) 2 2 None
-      ∷ live 6 16 (codes "g") (Scalar Int) 4 4 None ∷ live 7 18 (codes "h") (Scalar UInt) 4 4 None ∷ live 8 20 (codes "i") (Scalar Long) 8 8 None
-      ∷ live 9 22 (codes "j") (Scalar ULong) 8 8 None ∷ live 10 24 (codes "k") (Scalar Float) 4 4 None ∷ live 11 26 (codes "l") (Scalar Double) 8 8 None
-      ∷ [])
 
 -- a table T, a struct W of 12 bytes that is aligned to 2, a table A, and a union U; the fields of T stand in the list
 -- in falling slot, and one in the midst is deprecated

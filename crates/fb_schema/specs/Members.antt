@@ -1,8 +1,7 @@
 -- The members of unions, found by value and by name.
 use Rattle.std.specs.Prelude.{ℕ, ℤ, pos, negsuc, ◌&&◌, nat_lt, Bool, false, if◌then◌else◌, List, [], filter, find, slice_get, unsigned_abs, Option, Some, None, option_map, option_and_then, bytes_eq}
 use Rattle.std.specs.Ordering.{int_eq}
-use Rattle.fb_schema.specs.declared.kinds.Kind.{Kind}
-use Rattle.fb_schema.specs.{Rows.Member, Rows.Enum, Rows.Rows, Kinds.kind_of}
+use Rattle.fb_schema.specs.{declared.kinds.Kind.Kind, Rows.Member, Rows.Enum, Rows.Rows, Kinds.kind_of}
 
 -- a value from 1 to 255: 0 is the union without a value
 abbrev pub is_member_value : ℤ → Bool

@@ -1,10 +1,8 @@
 -- The fields of structs, as a reader of a struct's bytes sees them.
 use Rattle.std.specs.Prelude.{ℕ, ◌+◌, ◌*◌, ◌<◌, ◌≤◌, ℤ, if◌then◌else◌, List, [], length, position, slice_get, Option, Some, None, option_map, option_and_then, bytes_eq}
-use Rattle.fb_schema.specs.declared.{kinds.Shape.Shape, kinds.Shape.TheVariants.One, kinds.Shape.TheVariants.Vector, kinds.Shape.TheVariants.Array}
-use Rattle.fb_schema.specs.declared.{kinds.Kind.Kind, views.PartView.PartView}
-use Rattle.fb_schema.specs.declared.kinds.Kind.TheVariants.{Scalar, Struct, Scalars, Structs}
-use Rattle.fb_schema.specs.Rows.{Field, Object, Rows}
-use Rattle.fb_schema.specs.Kinds.{scalar_size, struct_size, shape_of, shape_kind}
+use Rattle.fb_schema.specs.declared.kinds.{Shape.Shape, Shape.TheVariants.One, Shape.TheVariants.Vector, Shape.TheVariants.Array, Kind.Kind}
+use Rattle.fb_schema.specs.declared.{views.PartView.PartView, kinds.Kind.TheVariants.Scalar, kinds.Kind.TheVariants.Struct, kinds.Kind.TheVariants.Scalars}
+use Rattle.fb_schema.specs.{declared.kinds.Kind.TheVariants.Structs, Rows.Field, Rows.Object, Rows.Rows, Kinds.scalar_size, Kinds.struct_size, Kinds.shape_of, Kinds.shape_kind}
 
 -- the kind of what a struct's field of this shape holds: an array has that of a vector of its elements
 abbrev pub part_kind : Rows → ℤ → Option Shape → Option Kind

@@ -1,7 +1,6 @@
 -- The rows of a schema, as contracts see them: plain records without references.
 use Rattle.std.specs.Prelude.{ℕ, ◌<◌, ◌^◌, All, length, vec_len, ℤ, pos, negsuc, Bool, false, not, List, map, slice_get, Option, Some, None, position, if◌then◌else◌, option_and_then, bytes_eq}
-use Rattle.fb_schema.specs.declared.{rows.TypeRow.TypeRow, rows.FieldRow.FieldRow, rows.ObjectRow.ObjectRow, rows.MemberRow.MemberRow}
-use Rattle.fb_schema.specs.declared.rows.EnumRow.{EnumRow}
+use Rattle.fb_schema.specs.declared.rows.{TypeRow.TypeRow, FieldRow.FieldRow, ObjectRow.ObjectRow, MemberRow.MemberRow, EnumRow.EnumRow}
 
 -- a field of a table or struct
 pub record Field : Type 0 where

@@ -1,11 +1,9 @@
 -- What the rows of a schema give a reader of buffers.
 use Rattle.std.specs.Prelude.{◌*◌, ◌≡◌, ℕ, ◌+◌, ◌%◌, ◌^◌, ◌<◌, ◌≤◌, List, length, slice_get, Option, Some, IsTrue}
-use Rattle.fb_schema.specs.declared.{kinds.Kind.Kind, kinds.Scalar.TheVariants.UType, views.PartView.PartView}
-use Rattle.fb_schema.specs.declared.kinds.Kind.TheVariants.{Scalar, Text, Struct, Table, Union, Scalars, Texts, Structs, Tables, Unions}
-use Rattle.fb_schema.specs.Rows.{Rows, Field, Object, is_table, is_union}
-use Rattle.fb_schema.specs.Kinds.{kind_of, kind_size, kind_align, struct_align, struct_size}
-use Rattle.fb_schema.specs.Live.{Live, live_fields, live_rows, live_as}
-use Rattle.fb_schema.specs.{Members.member_of, Parts.PartFits, Parts.part_at}
+use Rattle.fb_schema.specs.declared.{kinds.Kind.Kind, kinds.Scalar.TheVariants.UType, views.PartView.PartView, kinds.Kind.TheVariants.Scalar, kinds.Kind.TheVariants.Text}
+use Rattle.fb_schema.specs.declared.kinds.Kind.TheVariants.{Struct, Table, Union, Scalars, Texts, Structs, Tables, Unions}
+use Rattle.fb_schema.specs.{Rows.Rows, Rows.Field, Rows.Object, Rows.is_table, Rows.is_union, Kinds.kind_of, Kinds.kind_size, Kinds.kind_align, Kinds.struct_align}
+use Rattle.fb_schema.specs.{Kinds.struct_size, Live.Live, Live.live_fields, Live.live_rows, Live.live_as, Members.member_of, Parts.PartFits, Parts.part_at}
 
 -- an alignment is a power of two
 abbrev pub IsAlignment : ℕ → Type 0

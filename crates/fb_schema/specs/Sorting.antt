@@ -1,10 +1,9 @@
 -- Keys in order, each with its place in the list that it comes from.
 use Rattle.std.specs.Prelude.{◌≡◌, ◌==◌, ◌+◌, ℕ, ℤ, pos, Bool, suc, ◌<◌, List, [], ◌∷◌, length, slice_index_or, IsPermutation, Option, MatchOption, IsSorted}
-use Rattle.std.specs.{Borrow.Bor, Cmp.Lexicographic.slice_cmp, List.list_any}
-use Rattle.std.specs.Ordering.{nat_cmp, bool_cmp, int_eq, ordering_then}
-use Rattle.std.specs.declared.{cmp.Ordering.Ordering, cmp.Ordering.TheVariants.Equal}
-use Rattle.fb_schema.specs.declared.{kinds.TypeField.TypeField, flat.ObjectPart.ObjectPart, rows.FieldRow.FieldRow, rows.MemberRow.MemberRow}
-use Rattle.fb_schema.specs.{Rows.Field, Demands.stands_below}
+use Rattle.std.specs.{Borrow.Bor, Cmp.Lexicographic.slice_cmp, List.list_any, Ordering.nat_cmp, Ordering.bool_cmp, Ordering.int_eq, Ordering.ordering_then}
+use Rattle.std.specs.declared.cmp.Ordering.{Ordering, TheVariants.Equal}
+use Rattle.fb_schema.specs.{declared.kinds.TypeField.TypeField, declared.flat.ObjectPart.ObjectPart, declared.rows.FieldRow.FieldRow, declared.rows.MemberRow.MemberRow, Rows.Field}
+use Rattle.fb_schema.specs.Demands.{stands_below}
 
 -- by key, and then by place
 abbrev pub entry_cmp : {K : Type 0} → (K → K → Ordering) → K × ℕ → K × ℕ → Ordering

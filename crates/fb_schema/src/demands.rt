@@ -1,8 +1,7 @@
 // What is demanded of each row, asked in the order of the definition's lists.
 
 ghost use Rattle.std.specs.Prelude.{◌≡◌, List};
-ghost use Rattle.fb_schema.specs.declared.rows.FieldRow.{FieldRow};
-ghost use Rattle.fb_schema.specs.{FlatRows.object_in, FlatRows.borrowed_rows, Rows.field_of, Rows.member_of_row, Kinds.shape_of};
+ghost use Rattle.fb_schema.specs.{declared.rows.FieldRow.FieldRow, FlatRows.object_in, FlatRows.borrowed_rows, Rows.field_of, Rows.member_of_row, Kinds.shape_of};
 ghost use Rattle.fb_schema.specs.Demands.{first_code, is_alignment, passes_end, lacks_type_field, object_demands, struct_field_demands, table_field_demands, member_demands};
 
 use crate::fault::Code;

@@ -2,11 +2,9 @@
 
 ghost use Rattle.std.specs.Prelude.{◌≡◌, ◌<◌, ◌^◌, pos, not, ◌&&◌, map, length, IfOk};
 ghost use Rattle.std.specs.Ordering.{int_eq, nat_cmp};
-ghost use Rattle.fb_schema.specs.Sorting.{IsFirstAgain, AreTypeSlots, name_cmp, field_name, field_slot};
-ghost use Rattle.fb_schema.specs.{Rows.field_of, Rows.member_of_row};
-ghost use Rattle.fb_schema.specs.declared.kinds.TypeField.TheVariants.{ForUnion, ForUnions};
-ghost use Rattle.fb_schema.specs.FlatRows.{borrowed_rows};
-ghost use Rattle.fb_schema.specs.Demands.{is_at, IsFirstOf, struct_asked, table_asked, members_asked};
+ghost use Rattle.fb_schema.specs.{Sorting.IsFirstAgain, Sorting.AreTypeSlots, Sorting.name_cmp, Sorting.field_name, Sorting.field_slot, Rows.field_of, Rows.member_of_row};
+ghost use Rattle.fb_schema.specs.{declared.kinds.TypeField.TheVariants.ForUnion, declared.kinds.TypeField.TheVariants.ForUnions, FlatRows.borrowed_rows, Demands.is_at};
+ghost use Rattle.fb_schema.specs.Demands.{IsFirstOf, struct_asked, table_asked, members_asked};
 
 use crate::demands::{Beside, member_fault, object_fault, struct_field_fault, table_field_fault};
 use crate::fault::Code;

@@ -1,10 +1,8 @@
 // The rows of a schema, flat: all fields of all objects in one vector, and all members of all enums in another.
 
 ghost use Rattle.std.specs.Prelude.{◌≡◌, ◌<◌, ◌^◌, ℕ, List, [], map, length, IfOk, OnOk, All, vec_len, slice_get, Some};
-ghost use Rattle.fb_schema.specs.declared.flat.EnumPart.{EnumPart};
-ghost use Rattle.fb_schema.specs.{Parts.parts_of, Flat.part, Flat.IsPart};
-ghost use Rattle.fb_schema.specs.Rows.{AreFew, Object, Enum, field_of, object_of, enum_of, rows_of};
-ghost use Rattle.fb_schema.specs.FlatRows.{object_with, enum_with, flat_rows, AreParts};
+ghost use Rattle.fb_schema.specs.{declared.flat.EnumPart.EnumPart, Parts.parts_of, Flat.part, Flat.IsPart, Rows.AreFew, Rows.Object, Rows.Enum, Rows.field_of, Rows.object_of};
+ghost use Rattle.fb_schema.specs.{Rows.enum_of, Rows.rows_of, FlatRows.object_with, FlatRows.enum_with, FlatRows.flat_rows, FlatRows.AreParts};
 
 use crate::rows::{EnumRow, FieldRow, MemberRow, ObjectRow};
 use std::alloc::{AllocError, Allocator};

@@ -1,12 +1,10 @@
 // How the index of legal rows is made.
 
 ghost use Rattle.std.specs.Prelude.{◌≡◌, ◌<◌, ◌≤◌, ◌^◌, ◌+◌, ℕ, List, [], ◌∷◌, ◌++◌, map, length, take, IfOk, OnOk, IfErr, All, Some, None, true};
-ghost use Rattle.fb_schema.specs.declared.{flat.RowLists.RowLists, rows.MemberRow.MemberRow};
-ghost use Rattle.fb_schema.specs.{Flat.IsPart, FlatRows.borrowed_rows, FlatRows.AreParts, Rows.Rows, Rows.Object, Rows.member_of_row, Kinds.kind_of};
-ghost use Rattle.fb_schema.specs.{Indexed.IsBlank, Indexed.AreIndexed, Demands.IsLegal, Demands.Refuses, Demands.first_code, Demands.members_asked, Targets.AreTargets};
-ghost use Rattle.fb_schema.specs.Sorting.{IsOrderOf, name_cmp, object_name};
-ghost use Rattle.fb_schema.specs.Live.{live_of_view, live_in, live_rows};
-ghost use Rattle.fb_schema.specs.Index.{kept_members, AreNextRequired, IsLiveIndex, IsMemberIndex};
+ghost use Rattle.fb_schema.specs.{declared.flat.RowLists.RowLists, declared.rows.MemberRow.MemberRow, Flat.IsPart, FlatRows.borrowed_rows, FlatRows.AreParts, Rows.Rows};
+ghost use Rattle.fb_schema.specs.{Rows.Object, Rows.member_of_row, Kinds.kind_of, Indexed.IsBlank, Indexed.AreIndexed, Demands.IsLegal, Demands.Refuses, Demands.first_code};
+ghost use Rattle.fb_schema.specs.{Demands.members_asked, Targets.AreTargets, Sorting.IsOrderOf, Sorting.name_cmp, Sorting.object_name, Live.live_of_view, Live.live_in};
+ghost use Rattle.fb_schema.specs.{Live.live_rows, Index.kept_members, Index.AreNextRequired, Index.IsLiveIndex, Index.IsMemberIndex};
 
 use crate::fault::SchemaFault;
 use crate::flat::{RowLists, part};

@@ -1,8 +1,7 @@
 // What follows from the definitions alone. These functions have no body: their contracts are the theorems.
 
 ghost use Rattle.std.specs.Prelude.{◌≡◌, ◌↔◌};
-ghost use Rattle.fb_schema.specs.{Rows.Rows, Demands.IsLegal, Demands.IsFirstIllegal};
-ghost use Rattle.fb_schema.specs.declared.fault.SchemaFault.{SchemaFault};
+ghost use Rattle.fb_schema.specs.{Rows.Rows, Demands.IsLegal, Demands.IsFirstIllegal, declared.fault.SchemaFault.SchemaFault};
 
 /// At most one fault is the first.
 pub fn one_fault_is_first()

@@ -1,10 +1,9 @@
 // Rows are refused by the first demand that they break.
 
 ghost use Rattle.std.specs.Prelude.{◌≡◌, ◌<◌, ◌^◌, map, length, IfOk, OnOk, IfErr, All};
-ghost use Rattle.fb_schema.specs.Sorting.{IsOrderOf, IsFirstAgain, name_cmp, object_name};
-ghost use Rattle.fb_schema.specs.Flat.{IsPart};
-ghost use Rattle.fb_schema.specs.FlatRows.{object_in, enum_in, borrowed_rows, AreParts};
-ghost use Rattle.fb_schema.specs.Demands.{IsLegal, AreClear, Refuses, IsFirstOf, demands_of_field, demands_of_union};
+ghost use Rattle.fb_schema.specs.{Sorting.IsOrderOf, Sorting.IsFirstAgain, Sorting.name_cmp, Sorting.object_name, Flat.IsPart, FlatRows.object_in, FlatRows.enum_in};
+ghost use Rattle.fb_schema.specs.{FlatRows.borrowed_rows, FlatRows.AreParts, Demands.IsLegal, Demands.AreClear, Demands.Refuses, Demands.IsFirstOf, Demands.demands_of_field};
+ghost use Rattle.fb_schema.specs.Demands.{demands_of_union};
 
 use crate::demands::object_fault;
 use crate::fault::{Code, SchemaFault};

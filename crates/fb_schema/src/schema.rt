@@ -3,11 +3,9 @@
 ghost use Rattle.std.specs.Prelude.{◌≡◌, ◌<◌, map, length, IfOk, OnOk, IfErr, IfSome, IsTrue, option_map, slice_get, Some};
 ghost use Rattle.std.specs.Prelude.{position, ℕ, ◌≤◌, ◌^◌, find, pos};
 ghost use Rattle.std.specs.{Ordering.int_eq, Str.bytes_eq};
-ghost use Rattle.fb_schema.specs.declared.rows.FieldRow.{FieldRow};
-ghost use Rattle.fb_schema.specs.Rows.{AreFew, rows_of, is_table, is_union, table_named, field_of, member_of_row};
-ghost use Rattle.fb_schema.specs.{Heads.head_of, Heads.head_of_view, Members.member_of, Members.member_named, Members.member_name};
-ghost use Rattle.fb_schema.specs.{Demands.IsLegal, Demands.Refuses, Parts.part_at, Parts.part_named, Parts.parts_of};
-ghost use Rattle.fb_schema.specs.{Served.IsServed, Served.HaveKinds, Steps.is_plain, Steps.step_of, Targets.target_at, Targets.target_of};
+ghost use Rattle.fb_schema.specs.{declared.rows.FieldRow.FieldRow, Rows.AreFew, Rows.rows_of, Rows.is_table, Rows.is_union, Rows.table_named, Rows.field_of, Rows.member_of_row};
+ghost use Rattle.fb_schema.specs.{Heads.head_of, Heads.head_of_view, Members.member_of, Members.member_named, Members.member_name, Demands.IsLegal, Demands.Refuses, Parts.part_at};
+ghost use Rattle.fb_schema.specs.{Parts.part_named, Parts.parts_of, Served.IsServed, Served.HaveKinds, Steps.is_plain, Steps.step_of, Targets.target_at, Targets.target_of};
 ghost use Rattle.fb_schema.specs.Live.{live_fields, live_of_view, field_named, next_required, widest};
 
 use crate::fault::SchemaFault;

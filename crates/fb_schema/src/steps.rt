@@ -1,8 +1,7 @@
 // The live fields of a table in one flat row, for a reader that passes many of them.
 
 ghost use Rattle.std.specs.Prelude.{◌≡◌, map, IfOk};
-ghost use Rattle.fb_schema.specs.Live.{live_of_view};
-ghost use Rattle.fb_schema.specs.Steps.{act_of, bit_of, is_plain_act, are_plain, step_of};
+ghost use Rattle.fb_schema.specs.{Live.live_of_view, Steps.act_of, Steps.bit_of, Steps.is_plain_act, Steps.are_plain, Steps.step_of};
 
 use crate::kinds::Kind;
 use crate::views::{Act, FieldView, Step};

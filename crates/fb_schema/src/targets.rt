@@ -1,10 +1,9 @@
 // What the `uoffset`s of a union lead to, found by their types without a search.
 
 ghost use Rattle.std.specs.Prelude.{◌≡◌, ◌+◌, ℕ, List, [], map, OnOk};
-ghost use Rattle.fb_schema.specs.{FlatRows.borrowed_rows, Rows.Rows, Rows.member_of_row};
-ghost use Rattle.fb_schema.specs.Targets.{nothing, kind_to, target_of, target_at, place_among, kind_among, AreTargets, AreSorted, EndsValues, LeadBelow};
-ghost use Rattle.fb_schema.specs.declared.views.Target.{Target};
-ghost use Rattle.fb_schema.specs.declared.rows.MemberRow.{MemberRow};
+ghost use Rattle.fb_schema.specs.{FlatRows.borrowed_rows, Rows.Rows, Rows.member_of_row, Targets.nothing, Targets.kind_to, Targets.target_of, Targets.target_at};
+ghost use Rattle.fb_schema.specs.Targets.{place_among, kind_among, AreTargets, AreSorted, EndsValues, LeadBelow};
+ghost use Rattle.fb_schema.specs.declared.{views.Target.Target, rows.MemberRow.MemberRow};
 
 use crate::flat::RowLists;
 use crate::kinds::Kind;

@@ -1,8 +1,7 @@
 // The type fields of a table, by whose slots unions are found to have one.
 
 ghost use Rattle.std.specs.Prelude.{◌≡◌, List, map, IfOk};
-ghost use Rattle.fb_schema.specs.{Rows.Field, Rows.field_of, Demands.stands_below, Sorting.AreTypeSlots};
-ghost use Rattle.fb_schema.specs.declared.kinds.TypeField.{TypeField};
+ghost use Rattle.fb_schema.specs.{Rows.Field, Rows.field_of, Demands.stands_below, Sorting.AreTypeSlots, declared.kinds.TypeField.TypeField};
 
 use crate::kinds::TypeField;
 use crate::rows::FieldRow;

@@ -1,12 +1,10 @@
 // What types are and what they name, read off the rows.
 
 ghost use Rattle.std.specs.Prelude.{◌≡◌, Some, option_map, pos, ◌*ℤ◌};
-ghost use Rattle.fb_schema.specs.Rows.{entry_at, field_of};
-ghost use Rattle.fb_schema.specs.Parts.{part_of};
-ghost use Rattle.fb_schema.specs.{FlatRows.borrowed_rows, FlatRows.found_object, FlatRows.found_enum, Vectors.vector_of};
+ghost use Rattle.fb_schema.specs.{Rows.entry_at, Rows.field_of, Parts.part_of, FlatRows.borrowed_rows, FlatRows.found_object, FlatRows.found_enum, Vectors.vector_of};
 ghost use Rattle.fb_schema.specs.Kinds.{element_of, shape_of, scalar_size, kind_of, shape_kind, struct_size, struct_align, kind_size, kind_align};
-ghost use Rattle.fb_schema.specs.Demands.{is_inline, is_supported, is_for_member, is_object, is_type_field, names_no_object, names_table, names_no_union, inline_bytes, element_bytes};
-ghost use Rattle.fb_schema.specs.declared.{kinds.Kind.Kind, kinds.Shape.Shape};
+ghost use Rattle.fb_schema.specs.Demands.{is_inline, is_supported, is_for_member, is_object, is_type_field, names_no_object, names_table, names_no_union, inline_bytes};
+ghost use Rattle.fb_schema.specs.{Demands.element_bytes, declared.kinds.Kind.Kind, declared.kinds.Shape.Shape};
 
 use crate::base_type;
 use crate::flat::{EnumPart, ObjectPart, RowLists};

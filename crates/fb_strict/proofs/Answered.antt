@@ -1,21 +1,17 @@
 -- Tests that were made, and the budget that was asked after them.
 use Rattle.std.proofs.Common.{◌≡◌, ℕ, ◌+◌, ◌^◌, ◌<◌, ◌≤◌, true, false, List, Option, Some, None, Result, Ok, Err, refl, sym, ap, ◌∙◌, subst, arith, Bool, inl, inr, ◌⊎◌}
 use Rattle.std.specs.Prelude.{IfOk, IfErr, IsErrAnd}
-use Rattle.std.specs.Option.{is_some}
+use Rattle.std.specs.{Option.is_some, Str.is_utf8, Str.Lossy.utf8_valid_len}
 use Rattle.std.proofs.lemmas.Bool.Decides.{nat_tests}
 use Rattle.fb_bytes.specs.Word.{Lent, word}
-use Rattle.fb_rules.specs.declared.{site.Site.Site, site.Stop.Stop, fault.Reason.Reason}
-use Rattle.fb_rules.specs.{Bounds.Bounds, Bounds.AreAllowed, Plain.tested_by, Plain.place_from, Plain.IsTested, Told.IsAskedAt}
-use Rattle.fb_rules.specs.Order.{Failure, check, after}
-use Rattle.fb_rules.specs.{Places.field_place, Places.target}
-use Rattle.std.specs.{Str.is_utf8, Str.Lossy.utf8_valid_len}
-use Rattle.fb_rules.specs.declared.fault.Reason.TheVariants.{NotUtf8, UnknownField}
-use Rattle.fb_rules.specs.declared.offset_row.Row.{Row}
-use Rattle.fb_strict.specs.declared.{inner.Inner.Inner, tasks.Ask.Ask, tasks.Ask.TheVariants.Bytes, tasks.Held.Held}
-use Rattle.fb_strict.specs.{InOrder.together_failure, InOrder.flex_failure, Passing.Passing, Passing.IsRoom, Passing.wants_of, Passing.task_inner, Passing.task_row, Passing.TaskPassed, Passing.TaskDone, Skipped.Wants, InOrder.where_asked, Asked.vectors_reads}
+use Rattle.fb_rules.specs.{declared.site.Site.Site, declared.site.Stop.Stop, declared.fault.Reason.Reason, Bounds.Bounds, Bounds.AreAllowed, Plain.tested_by, Plain.place_from}
+use Rattle.fb_rules.specs.{Plain.IsTested, Told.IsAskedAt, Order.Failure, Order.check, Order.after, Places.field_place, Places.target, declared.fault.Reason.TheVariants.NotUtf8}
+use Rattle.fb_rules.specs.declared.{fault.Reason.TheVariants.UnknownField, offset_row.Row.Row}
+use Rattle.fb_strict.specs.{declared.inner.Inner.Inner, declared.tasks.Ask.Ask, declared.tasks.Ask.TheVariants.Bytes, declared.tasks.Held.Held, InOrder.together_failure}
+use Rattle.fb_strict.specs.{InOrder.flex_failure, Passing.Passing, Passing.IsRoom, Passing.wants_of, Passing.task_inner, Passing.task_row, Passing.TaskPassed, Passing.TaskDone}
+use Rattle.fb_strict.specs.{Skipped.Wants, InOrder.where_asked, Asked.vectors_reads, declared.tasks.Ask.TheVariants.Unions as AskUnions, InOrder.text_reads, Strict.text_at}
+use Rattle.fb_strict.specs.Passing.{TextPassed}
 use Rattle.fb_schema.specs.Rows.{Rows}
-use Rattle.fb_strict.specs.declared.tasks.Ask.TheVariants.{Unions as AskUnions}
-use Rattle.fb_strict.specs.{InOrder.text_reads, Strict.text_at, Passing.TextPassed}
 use Rattle.fb_strict.proofs.Asking.{told_allowed}
 
 same_lent : (m new : Lent) (n : ℕ) → new.bytes ≡ m.bytes → new.count ≡ n → new.base ≡ m.base → new ≡ record m { count = n }

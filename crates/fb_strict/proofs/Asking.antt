@@ -3,29 +3,25 @@ use Rattle.std.proofs.Common.{◌≡◌, ◌↔◌, ℕ, zero, suc, ◌+◌, ◌
 use Rattle.std.specs.Prelude.{slice_get, ◌≢◌}
 use Rattle.std.proofs.lemmas.{Bool.Decides.nat_tests, List.Sums.sum_by-cons}
 use Rattle.fb_bytes.specs.Word.{word}
-use Rattle.fb_schema.specs.declared.kinds.Kind.{Kind}
-use Rattle.fb_schema.specs.declared.kinds.Kind.TheVariants.{Scalar, Text, Struct, Table, Union, Scalars, Texts, Structs, Tables, Unions}
+use Rattle.fb_schema.specs.declared.kinds.Kind.{Kind, TheVariants.Scalar, TheVariants.Text, TheVariants.Struct, TheVariants.Table, TheVariants.Union, TheVariants.Scalars}
+use Rattle.fb_schema.specs.declared.kinds.Kind.TheVariants.{Texts, Structs, Tables, Unions}
 use Rattle.fb_schema.specs.{Rows.Rows, Live.Live, Live.live_fields}
-use Rattle.fb_rules.specs.declared.{checks.Checks.Checks, fault.Fault.Fault, fault.Reason.TheVariants.TooManyReads, link.Link.Link}
-use Rattle.fb_rules.specs.{Links.field_link, Links.element_link}
-use Rattle.fb_rules.specs.{Bounds.Bounds, Bounds.AreAllowed, Bounds.allowed, Stops.reads_failure, Places.target, Places.field_place, Places.vtable}
-use Rattle.fb_rules.specs.Fields.{Lead, to_table, to_struct, to_string, to_nothing, Entry, union_row, entries_at, entries_of, entries, type_place, types_begin}
-use Rattle.fb_rules.specs.Order.{Failure, check, after, ◌▷◌}
-use Rattle.fb_rules.specs.Tree.{Tree, node, Kids, no_kids, kid, Elements, no_elements, element, Element, leaf, table}
-use Rattle.fb_rules.specs.Unfolds.{Unfolds, FieldsUnfold, ElementsUnfold, ElementUnfolds}
-use Rattle.fb_strict.specs.Strict.{IsFlexless, IsStrict, KidsAreStrict, ElementsAreStrict, ElementIsStrict, IsStrictField, HasStrictUnions, IsUtf8At, AreUtf8, IsLiveSlot, HasKnownFields, slot_count}
-use Rattle.fb_strict.specs.InOrder.{where_asked, length_failure, union_failure, together_failure, element_failure}
-use Rattle.fb_strict.specs.Demanded.{held_of}
-use Rattle.fb_strict.specs.declared.tasks.{Held.Held, Held.TheVariants.Buffer, Held.TheVariants.Flex}
-use Rattle.fb_rules.specs.Cost.{slot_reads}
-use Rattle.fb_strict.specs.InOrder.{flex_failure}
-use Rattle.fb_strict.specs.Skipped.{Wants, is_kind_asked, IsClosed}
-use Rattle.fb_strict.specs.Asked.{Demand, held_demands, AreMet, slots_from, slots_demands, field_demands, row_leads, row_place, first_referent, element_demands, object_of, demands_in, demands_in_fields, demands_in_row, demands_below, demands_reads, demand_fault, first_fault, DemandsLaw, FirstLaw}
-use Rattle.fb_strict.proofs.Referents.{IsAnswered, IsRowOf, row_at}
-use Rattle.fb_rules.specs.declared.{offset_row.Leads.Leads, offset_row.Leads.TheVariants.All, offset_row.Leads.TheVariants.ByType, offset_row.Referent.Referent}
-use Rattle.fb_rules.specs.declared.offset_row.Referent.TheVariants.{Text as AText, Table as ATable, Struct as AStruct, Nothing}
+use Rattle.fb_rules.specs.{declared.checks.Checks.Checks, declared.fault.Fault.Fault, declared.fault.Reason.TheVariants.TooManyReads, declared.link.Link.Link, Links.field_link}
+use Rattle.fb_rules.specs.{Links.element_link, Bounds.Bounds, Bounds.AreAllowed, Bounds.allowed, Stops.reads_failure, Places.target, Places.field_place, Places.vtable, Fields.Lead}
+use Rattle.fb_rules.specs.Fields.{to_table, to_struct, to_string, to_nothing, Entry, union_row, entries_at, entries_of, entries, type_place, types_begin}
+use Rattle.fb_rules.specs.{Order.Failure, Order.check, Order.after, Order.◌▷◌, Tree.Tree, Tree.node, Tree.Kids, Tree.no_kids, Tree.kid, Tree.Elements, Tree.no_elements}
+use Rattle.fb_rules.specs.{Tree.element, Tree.Element, Tree.leaf, Tree.table, Unfolds.Unfolds, Unfolds.FieldsUnfold, Unfolds.ElementsUnfold, Unfolds.ElementUnfolds}
+use Rattle.fb_rules.specs.{Cost.slot_reads, declared.offset_row.Leads.Leads, declared.offset_row.Leads.TheVariants.All, declared.offset_row.Leads.TheVariants.ByType}
+use Rattle.fb_rules.specs.declared.offset_row.Referent.{Referent, TheVariants.Text as AText, TheVariants.Table as ATable, TheVariants.Struct as AStruct, TheVariants.Nothing}
 use Rattle.fb_rules.specs.OffsetRows.{leads_after}
-use Rattle.fb_strict.proofs.{Chains.union_none, Chains.unions_none, Chains.text_none, Chains.slot_none, Skips.skips, Skips.strict_field, Skips.strict_elements, Skips.quiet_entries}
+use Rattle.fb_strict.specs.Strict.{IsFlexless, IsStrict, KidsAreStrict, ElementsAreStrict, ElementIsStrict, IsStrictField, HasStrictUnions, IsUtf8At, AreUtf8, IsLiveSlot}
+use Rattle.fb_strict.specs.{Strict.HasKnownFields, Strict.slot_count, InOrder.where_asked, InOrder.length_failure, InOrder.union_failure, InOrder.together_failure}
+use Rattle.fb_strict.specs.{InOrder.element_failure, Demanded.held_of, declared.tasks.Held.Held, declared.tasks.Held.TheVariants.Buffer, declared.tasks.Held.TheVariants.Flex}
+use Rattle.fb_strict.specs.{InOrder.flex_failure, Skipped.Wants, Skipped.is_kind_asked, Skipped.IsClosed, Asked.Demand, Asked.held_demands, Asked.AreMet, Asked.slots_from}
+use Rattle.fb_strict.specs.Asked.{slots_demands, field_demands, row_leads, row_place, first_referent, element_demands, object_of, demands_in, demands_in_fields, demands_in_row}
+use Rattle.fb_strict.specs.Asked.{demands_below, demands_reads, demand_fault, first_fault, DemandsLaw, FirstLaw}
+use Rattle.fb_strict.proofs.{Referents.IsAnswered, Referents.IsRowOf, Referents.row_at, Chains.union_none, Chains.unions_none, Chains.text_none, Chains.slot_none, Skips.skips}
+use Rattle.fb_strict.proofs.Skips.{strict_field, strict_elements, quiet_entries}
 
 joined : (xs ys : List Demand) → AreMet (xs ++ ys) ↔ (AreMet xs × AreMet ys)
 joined [] ys = ((λ h. (tt, h)), (λ h. h.1))

@@ -1,18 +1,16 @@
 -- A buffer with those inside it costs few reads.
 use Rattle.std.proofs.Common.{◌≡◌, ℕ, ◌+◌, ◌-◌, ◌*◌, ◌≤◌, List, [], ◌∷◌, length, drop, inl, inr, Option, Some, None, Result, Ok, Err, refl, sym, ap, subst, ◌∙◌, arith, length-take, length-drop, mul-le-mul_left, mul-le-mul_right, add-mul}
 use Rattle.fb_schema.specs.Live.{widest}
-use Rattle.fb_rules.specs.declared.{fault.Fault.Fault, fault.Report.Report, link.Link.Link}
-use Rattle.fb_rules.specs.{Bounds.Bounds, Bounds.AreAllowed, Question.Question, Tree.Tree, Tree.size, Stops.reads_failure, Links.StopsAlong, MostReads.within_budget, MostReads.most_reads, Places.target}
-use Rattle.fb_rules.specs.WellFormed.{base, IsWellFormed, cost}
-use Rattle.fb_rules.specs.Order.{◌▷◌}
+use Rattle.fb_rules.specs.{declared.fault.Fault.Fault, declared.fault.Report.Report, declared.link.Link.Link, Bounds.Bounds, Bounds.AreAllowed, Question.Question, Tree.Tree}
+use Rattle.fb_rules.specs.{Tree.size, Stops.reads_failure, Links.StopsAlong, MostReads.within_budget, MostReads.most_reads, Places.target, WellFormed.base, WellFormed.IsWellFormed}
+use Rattle.fb_rules.specs.{WellFormed.cost, Order.◌▷◌}
 use Rattle.fb_rules.proofs.Price.{reads_are_bounded}
-use Rattle.fb_strict.specs.declared.inner.Inner.{Inner}
-use Rattle.fb_strict.specs.Planned.{Planned, wants_in}
-use Rattle.fb_strict.specs.Asked.{Demand, demand_fault, demands_reads, first_fault}
-use Rattle.fb_strict.specs.Nested.{spent_alone, EndsWith, bytes_inside, open_at, asked_of, and_reads, and_walk, budget_left, question_inside, walk_inside, IsEntered, IsWalked, Refused, outward, later, Course, done, unmet, past, stops, into, through, ComeTo}
+use Rattle.fb_strict.specs.{declared.inner.Inner.Inner, Planned.Planned, Planned.wants_in, Asked.Demand, Asked.demand_fault, Asked.demands_reads, Asked.first_fault}
+use Rattle.fb_strict.specs.Nested.{spent_alone, EndsWith, bytes_inside, open_at, asked_of, and_reads, and_walk, budget_left, question_inside, walk_inside, IsEntered, IsWalked}
+use Rattle.fb_strict.specs.Nested.{Refused, outward, later, Course, done, unmet, past, stops, into, through, ComeTo}
 use Rattle.fb_strict.specs.{MostReads.most_reads_strictly, MostReads.within_past, Laws.StrictCostIsBounded, Laws.StrictReadsAreBounded}
-use Rattle.fb_strict.proofs.{Few.first_reads, Price.AreCheap, Price.buffer_cheap, Price.cheap_more, Price.comes_soon, Price.lesser, Price.more_past, Price.near_past, Nesting.stops_of, Legs.allowed_later, Verdicts.least_of}
-use Rattle.fb_strict.proofs.Turning.{cost_few, pass_price, some_size}
+use Rattle.fb_strict.proofs.{Few.first_reads, Price.AreCheap, Price.buffer_cheap, Price.cheap_more, Price.comes_soon, Price.lesser, Price.more_past, Price.near_past}
+use Rattle.fb_strict.proofs.{Nesting.stops_of, Legs.allowed_later, Verdicts.least_of, Turning.cost_few, Turning.pass_price, Turning.some_size}
 
 -- a fault is the first of one demand
 one_first : (L : Bounds) (paid : ℕ) (d : Demand) (f : Fault) → demand_fault d paid (d.chain ▷ reads_failure L paid d.reads d.at) ≡ Some f → first_fault L paid (d ∷ []) ≡ Some f

@@ -2,16 +2,13 @@
 use Rattle.std.proofs.Common.{◌≡◌, ℕ, ◌+◌, List, [], ◌∷◌, length, Option, Some, None, Bool, true, false, if◌then◌else◌, ap, refl, sym, subst, ◌∙◌, arith}
 use Rattle.std.specs.Prelude.{◌||◌}
 use Rattle.fb_bytes.specs.Word.{Lent}
-use Rattle.fb_schema.specs.{Rows.Rows}
+use Rattle.fb_schema.specs.Rows.{Rows}
 use Rattle.fb_rules.specs.declared.{fault.Fault.Fault, fault.Reason.Reason, site.Stop.Stop, site.Halt.Halt, site.LastLink.TheVariants.Behind, table.Child.Child}
-use Rattle.fb_rules.specs.{Bounds.AreAllowed, Tree.Tree, Plain.tested_by, Stops.reads_failure, Told.stopped}
-use Rattle.fb_rules.specs.Order.{Failure, after, ◌▷◌}
-use Rattle.fb_strict.specs.{Skipped.IsClosed, Skipped.has_asked, InOrder.length_failure, InOrder.where_asked, Planned.Planned, Planned.IsPlan, Planned.marked, Planned.marked_wants, Planned.wants_in}
-use Rattle.fb_strict.specs.Asked.{Demand, demands_in, demand_fault}
-use Rattle.fb_strict.specs.declared.room.Frame.{Frame}
-use Rattle.fb_strict.specs.Passing.{Passing, wants_of, IsNext, IsRooted, Moves, Breaks, GoesOn, Halts}
-use Rattle.fb_strict.proofs.Marks.{reaches}
-use Rattle.fb_strict.proofs.Moving.{one, breaks}
+use Rattle.fb_rules.specs.{Bounds.AreAllowed, Tree.Tree, Plain.tested_by, Stops.reads_failure, Told.stopped, Order.Failure, Order.after, Order.◌▷◌}
+use Rattle.fb_strict.specs.{Skipped.IsClosed, Skipped.has_asked, InOrder.length_failure, InOrder.where_asked, Planned.Planned, Planned.IsPlan, Planned.marked, Planned.marked_wants}
+use Rattle.fb_strict.specs.{Planned.wants_in, Asked.Demand, Asked.demands_in, Asked.demand_fault, declared.room.Frame.Frame, Passing.Passing, Passing.wants_of, Passing.IsNext}
+use Rattle.fb_strict.specs.Passing.{IsRooted, Moves, Breaks, GoesOn, Halts}
+use Rattle.fb_strict.proofs.{Marks.reaches, Moving.one, Moving.breaks}
 
 -- the objects that a plan asks are closed
 module _ (S : Rows) (p : Planned) (h : IsPlan S p.demands p) where

@@ -1,12 +1,10 @@
 -- The live field of a table in a slot, as a search among the views of its fields finds it.
 use Rattle.std.proofs.Common.{◌≡◌, ℕ, ◌+◌, ◌<◌, Bool, true, false, List, length, map, get_or, Some, option_map, refl, sym, ◌∙◌, ap, subst, arith, Less, Equal, Greater}
 use Rattle.std.specs.Prelude.{◌==◌, ◌&&◌, slice_get}
-use Rattle.std.proofs.lemmas.{Bool.Decides.Decides-eqb, Cmp.nat_cmp_total, Cmp.tied_itself, Option.get_or_from_slice_get, Option.slice_get-map, List.Folds.list_any_at, List.Folds.list_any_none}
-use Rattle.std.specs.List.{list_any}
-use Rattle.std.specs.List.Sorted.{IsSortedBy, IsNonDecreasingBy, IsPartitionPoint}
-use Rattle.std.specs.Ordering.{nat_cmp, is_lt, ordering_index}
-use Rattle.fb_schema.specs.declared.views.FieldView.{FieldView}
-use Rattle.fb_schema.specs.{Live.Live, Live.live_fields, Live.live_of_view, Rows.Rows, Served.IsServed}
+use Rattle.std.proofs.lemmas.{Bool.Decides.Decides-eqb, Cmp.nat_cmp_total, Cmp.tied_itself, Option.get_or_from_slice_get, Option.slice_get-map, List.Folds.list_any_at}
+use Rattle.std.proofs.lemmas.List.Folds.{list_any_none}
+use Rattle.std.specs.{List.list_any, List.Sorted.IsSortedBy, List.Sorted.IsNonDecreasingBy, List.Sorted.IsPartitionPoint, Ordering.nat_cmp, Ordering.is_lt, Ordering.ordering_index}
+use Rattle.fb_schema.specs.{declared.views.FieldView.FieldView, Live.Live, Live.live_fields, Live.live_of_view, Rows.Rows, Served.IsServed}
 use Rattle.fb_schema.proofs.{KeyLemmas.list_any-map, Numbers.get_or_default, Numbers.neither_below, Numbers.slice_get_some, Search.nat_tied, Search.not_true, Search.search_missed}
 use Rattle.fb_bfbs.specs.ByteFields.{is_bytes}
 use Rattle.fb_strict.specs.Holding.{has_bytes}

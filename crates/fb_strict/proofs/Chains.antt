@@ -1,16 +1,13 @@
 -- A chain of demands finds nothing exactly where they are met.
 use Rattle.std.proofs.Common.{◌≡◌, ◌↔◌, ℕ, zero, suc, ◌+◌, List, [], ◌∷◌, ap, Option, Some, None, Bool, true, false, refl, sym, ◌∙◌, arith}
-use Rattle.std.proofs.lemmas.Bool.Decides.{nat_tests}
-use Rattle.std.proofs.lemmas.Str.{IsUtf8-from_is_utf8, is_utf8-from_IsUtf8}
-use Rattle.std.specs.{Str.IsUtf8, Str.is_utf8, Str.Lossy.utf8_valid_len}
+use Rattle.std.proofs.lemmas.{Bool.Decides.nat_tests, Str.IsUtf8-from_is_utf8, Str.is_utf8-from_IsUtf8}
+use Rattle.std.specs.Str.{IsUtf8, is_utf8, Lossy.utf8_valid_len}
 use Rattle.fb_bytes.specs.Word.{word}
-use Rattle.fb_rules.specs.declared.fault.Reason.TheVariants.{NotUtf8, UnknownField}
-use Rattle.fb_rules.specs.Order.{check}
+use Rattle.fb_rules.specs.{declared.fault.Reason.TheVariants.NotUtf8, declared.fault.Reason.TheVariants.UnknownField, Order.check, declared.checks.Checks.Checks}
+use Rattle.fb_rules.specs.Fields.{types_begin}
 use Rattle.std.specs.Prelude.{slice_get, ◌==◌, ◌||◌, ◌≢◌}
 use Rattle.fb_strict.proofs.Lists.{or_first, or_later}
 use Rattle.fb_schema.specs.{Rows.Rows, Live.Live, Live.live_fields}
-use Rattle.fb_rules.specs.declared.checks.Checks.{Checks}
-use Rattle.fb_rules.specs.Fields.{types_begin}
 use Rattle.fb_rules.proofs.Chains.{offset_none}
 use Rattle.fb_strict.specs.Strict.{text_at, IsUtf8At, IsLiveSlot, LeadsInside, IsStrictUnion, IsStrictElement, IsStrictUnions}
 use Rattle.fb_strict.specs.InOrder.{inside_failure, union_failure, together_failure, element_failure, text_failure, is_live_slot, slot_failure, UnionsAreTold}

@@ -1,14 +1,12 @@
 -- A buffer inside is entered.
 use Rattle.std.proofs.Common.{◌≡◌, ℕ, ◌+◌, ◌-◌, ◌^◌, ◌≤◌, List, take, drop, inr, Result, Ok, Err, sym, ap, subst, ◌∙◌, arith, length-take}
 use Rattle.std.proofs.lemmas.List.{take-take, drop-drop, drop-take}
-use Rattle.fb_rules.specs.declared.{fault.Report.Report, link.Link.Link, table.Child.Child}
-use Rattle.fb_rules.specs.{Tree.Tree, Unfolds.Unfolds, WellFormed.IsWellFormed, WellFormed.IsWithin}
-use Rattle.fb_strict.specs.declared.{inner.Inner.Inner, room.Frame.Frame, levels.Level.Level, levels.Unmet.Unmet}
-use Rattle.fb_strict.specs.Planned.{wants_in}
-use Rattle.fb_strict.specs.Asked.{demands_of, demands_reads}
-use Rattle.fb_strict.specs.Passing.{IsInner, IsRooted}
-use Rattle.fb_strict.specs.Nested.{and_walk, question_inside}
-use Rattle.fb_strict.specs.Levels.{Whole, IsAsking, resting, bytes_of, asked_from, walk_at, IsWalkedAt, IsBegun, Begun, Stopped, inside_of, IsWalkedIn, spent_inside, asked_inside, level_inside, IsEnteredAt, HasBroken, HasEntered}
+use Rattle.fb_rules.specs.{declared.fault.Report.Report, declared.link.Link.Link, declared.table.Child.Child, Tree.Tree, Unfolds.Unfolds, WellFormed.IsWellFormed}
+use Rattle.fb_rules.specs.WellFormed.{IsWithin}
+use Rattle.fb_strict.specs.{declared.inner.Inner.Inner, declared.room.Frame.Frame, declared.levels.Level.Level, declared.levels.Unmet.Unmet, Planned.wants_in, Asked.demands_of}
+use Rattle.fb_strict.specs.{Asked.demands_reads, Passing.IsInner, Passing.IsRooted, Nested.and_walk, Nested.question_inside, Levels.Whole, Levels.IsAsking, Levels.resting}
+use Rattle.fb_strict.specs.Levels.{bytes_of, asked_from, walk_at, IsWalkedAt, IsBegun, Begun, Stopped, inside_of, IsWalkedIn, spent_inside, asked_inside, level_inside, IsEnteredAt}
+use Rattle.fb_strict.specs.Levels.{HasBroken, HasEntered}
 use Rattle.fb_strict.proofs.{Walking.short_bytes, Verdicts.walk_few, Verdicts.pass_few}
 
 -- bytes in bytes

@@ -2,28 +2,20 @@
 use Rattle.std.proofs.Common.{◌≡◌, ℕ, zero, suc, ◌+◌, ◌*◌, ◌≤◌, List, [], ◌∷◌, ◌++◌, length, refl, arith, Option, Some, None, Bool, true, false, if◌then◌else◌, mul-le-mul_left, mul-le-mul_right}
 use Rattle.std.proofs.lemmas.List.Sums.{sum_by-cons}
 use Rattle.fb_bytes.specs.Word.{word}
-use Rattle.fb_schema.specs.declared.kinds.Kind.{Kind}
-use Rattle.fb_schema.specs.{Rows.Rows, Live.Live, Live.live_fields, Members.member_of}
-use Rattle.fb_rules.specs.declared.{checks.Checks.Checks, link.Link.Link}
-use Rattle.fb_rules.specs.{Links.field_link, Links.element_link}
-use Rattle.fb_rules.specs.{Places.target, Places.field_place, Cost.head_reads}
+use Rattle.fb_schema.specs.{declared.kinds.Kind.Kind, Rows.Rows, Live.Live, Live.live_fields, Members.member_of}
+use Rattle.fb_rules.specs.{declared.checks.Checks.Checks, declared.link.Link.Link, Links.field_link, Links.element_link, Places.target, Places.field_place, Cost.head_reads}
 use Rattle.fb_rules.specs.Fields.{union_type, IsPresent, IsField, Lead, to_table, to_struct, to_string, to_nothing, Entry, entries_of, entries, type_place}
 use Rattle.fb_rules.specs.Tree.{Tree, node, Kids, no_kids, kid, Elements, no_elements, element, Element, leaf, table, size, kids_size, elements_size, element_size}
-use Rattle.fb_rules.specs.Unfolds.{Unfolds, FieldsUnfold, ElementsUnfold, ElementUnfolds}
-use Rattle.fb_rules.proofs.{Words.row_length, Words.union_row_length}
-use Rattle.fb_rules.proofs.Few.{if_present_few, head_few, slot_few}
-use Rattle.fb_strict.specs.InOrder.{where_asked, union_reads, element_failure, value_reads, typed_reads, element_reads, text_failure, text_reads}
-use Rattle.fb_strict.specs.Asked.{Demand, held_demands, reading, slot_demand, slots_from, slots_demands, vectors_reads, field_demands, row_leads, row_place, first_referent, element_demands, text_demands, object_of, demands_in, demands_in_fields, demands_in_row, demands_below, demands_reads}
-use Rattle.fb_strict.specs.Skipped.{Wants, is_kind_asked}
-use Rattle.fb_strict.proofs.Referents.{IsAnswered, IsRowOf, row_at}
-use Rattle.fb_rules.specs.declared.{offset_row.Leads.Leads, offset_row.Leads.TheVariants.All, offset_row.Leads.TheVariants.ByType, offset_row.Referent.Referent}
-use Rattle.fb_rules.specs.declared.offset_row.Referent.TheVariants.{Text as AText, Table as ATable, Struct as AStruct, Nothing}
-use Rattle.fb_strict.specs.Strict.{slot_count}
+use Rattle.fb_rules.specs.{Unfolds.Unfolds, Unfolds.FieldsUnfold, Unfolds.ElementsUnfold, Unfolds.ElementUnfolds, declared.offset_row.Leads.Leads}
+use Rattle.fb_rules.specs.declared.offset_row.{Leads.TheVariants.All, Leads.TheVariants.ByType, Referent.Referent, Referent.TheVariants.Text as AText}
+use Rattle.fb_rules.specs.declared.offset_row.Referent.TheVariants.{Table as ATable, Struct as AStruct, Nothing}
 use Rattle.fb_rules.specs.{Facts.IsTable, Facts.IsOffset, Facts.IsString, OffsetRows.leads_after}
-use Rattle.fb_strict.specs.Demanded.{held_of}
-use Rattle.fb_strict.specs.declared.tasks.Held.{Held}
-use Rattle.fb_strict.proofs.How.{not_by_kind}
-use Rattle.fb_strict.proofs.Moving.{reads_joined}
+use Rattle.fb_rules.proofs.{Words.row_length, Words.union_row_length, Few.if_present_few, Few.head_few, Few.slot_few}
+use Rattle.fb_strict.specs.InOrder.{where_asked, union_reads, element_failure, value_reads, typed_reads, element_reads, text_failure, text_reads}
+use Rattle.fb_strict.specs.Asked.{Demand, held_demands, reading, slot_demand, slots_from, slots_demands, vectors_reads, field_demands, row_leads, row_place, first_referent}
+use Rattle.fb_strict.specs.Asked.{element_demands, text_demands, object_of, demands_in, demands_in_fields, demands_in_row, demands_below, demands_reads}
+use Rattle.fb_strict.specs.{Skipped.Wants, Skipped.is_kind_asked, Strict.slot_count, Demanded.held_of, declared.tasks.Held.Held}
+use Rattle.fb_strict.proofs.{Referents.IsAnswered, Referents.IsRowOf, Referents.row_at, How.not_by_kind, Moving.reads_joined}
 
 pub first_reads : (d : Demand) (ds : List Demand) → demands_reads (d ∷ ds) ≡ d.reads + demands_reads ds
 first_reads d ds = sum_by-cons (λ (x : Demand). x.reads) d ds

@@ -2,22 +2,17 @@
 use Rattle.std.proofs.Common.{◌≡◌, ℕ, zero, suc, ◌≤◌, List, [], ◌∷◌, ◌++◌, Option, Some, None, option_map, Bool, true, false, if◌then◌else◌, append_assoc, refl, sym, ap, subst, ◌∙◌, ◌⊎◌, inl, inr, max, arith}
 use Rattle.std.specs.List.{cons_option}
 use Rattle.std.specs.Prelude.{slice_get}
-use Rattle.fb_schema.specs.declared.kinds.{Kind.Kind, Kind.TheVariants.Scalars, Scalar.TheVariants.UByte}
-use Rattle.fb_schema.specs.{Rows.Rows, Live.Live, Live.live_fields, Served.IsServed}
-use Rattle.fb_rules.specs.declared.{checks.Checks.Checks, link.Link.Link}
-use Rattle.fb_rules.specs.{Links.field_link, Links.element_link, Places.field_place, Fields.type_place, Fields.IsField, Fields.entries_of, Fields.entries_at, Fields.entries}
-use Rattle.fb_rules.specs.Tree.{Kids, no_kids, kid, kids_depth, Elements, no_elements, element, elements_depth}
-use Rattle.fb_rules.specs.Unfolds.{FieldsUnfold, ElementsUnfold}
+use Rattle.fb_schema.specs.{declared.kinds.Kind.Kind, declared.kinds.Kind.TheVariants.Scalars, declared.kinds.Scalar.TheVariants.UByte, Rows.Rows, Live.Live, Live.live_fields}
+use Rattle.fb_schema.specs.Served.{IsServed}
+use Rattle.fb_rules.specs.{declared.checks.Checks.Checks, declared.link.Link.Link, Links.field_link, Links.element_link, Places.field_place, Fields.type_place, Fields.IsField}
+use Rattle.fb_rules.specs.{Fields.entries_of, Fields.entries_at, Fields.entries, Tree.Kids, Tree.no_kids, Tree.kid, Tree.kids_depth, Tree.Elements, Tree.no_elements, Tree.element}
+use Rattle.fb_rules.specs.{Tree.elements_depth, Unfolds.FieldsUnfold, Unfolds.ElementsUnfold, declared.offset_row.Leads.Leads}
 use Rattle.fb_rules.proofs.Typed.{typed_by}
-use Rattle.fb_strict.specs.declared.{tasks.Held.Held, tasks.Ask.Ask, tasks.Ask.TheVariants.Bytes, tasks.Task.Task}
-use Rattle.fb_strict.specs.Demanded.{held_of}
-use Rattle.fb_strict.proofs.How.{IsHeld, IsOfKind, how, not_by_kind}
-use Rattle.fb_strict.specs.Skipped.{Wants, is_kind_asked}
-use Rattle.fb_rules.specs.declared.offset_row.Leads.{Leads}
-use Rattle.fb_strict.specs.Planned.{ask_by, ask_of, asked_of, task_with, task_of, tasks_in}
-use Rattle.fb_strict.specs.Asked.{Demand, held_demands, field_demands, row_leads, row_place, demands_in_fields, demands_in_row}
-use Rattle.fb_strict.specs.Passing.{task_failure, task_reads, task_inner, IsKnown, AreKnown}
-use Rattle.fb_strict.proofs.Unasked.{nothing_asked}
+use Rattle.fb_strict.specs.{declared.tasks.Held.Held, declared.tasks.Ask.Ask, declared.tasks.Ask.TheVariants.Bytes, declared.tasks.Task.Task, Demanded.held_of, Skipped.Wants}
+use Rattle.fb_strict.specs.{Skipped.is_kind_asked, Planned.ask_by, Planned.ask_of, Planned.asked_of, Planned.task_with, Planned.task_of, Planned.tasks_in, Asked.Demand}
+use Rattle.fb_strict.specs.{Asked.held_demands, Asked.field_demands, Asked.row_leads, Asked.row_place, Asked.demands_in_fields, Asked.demands_in_row, Passing.task_failure}
+use Rattle.fb_strict.specs.Passing.{task_reads, task_inner, IsKnown, AreKnown}
+use Rattle.fb_strict.proofs.{How.IsHeld, How.IsOfKind, How.how, How.not_by_kind, Unasked.nothing_asked}
 
 -- what is asked is what its kind says
 module _ (w : Wants) (S : Rows) where

@@ -1,15 +1,13 @@
 -- Holdings are found by the order of their fields.
 use Rattle.std.proofs.Common.{◌≡◌, ◌⊎◌, inl, inr, ℕ, ◌<◌, ◌≤◌, Bool, true, false, List, length, map, get_or, Some, None, option_map, refl, sym, ◌∙◌, ap, subst, arith, Ordering, Less, Equal, Greater}
 use Rattle.std.specs.Prelude.{◌==◌, ◌&&◌, ◌||◌, nat_lt, slice_get}
-use Rattle.std.proofs.lemmas.{Bool.Decides.nat_tests, Cmp.nat_cmp_total, Cmp.on_total, Cmp.then_total, List.length-map, Option.get_or_from_slice_get, Option.slice_get-get_or, Option.slice_get-map, Option.slice_get_within}
-use Rattle.std.proofs.lemmas.List.Sorted.{ranks_by, sorted_far}
-use Rattle.std.specs.Cmp.{IsTotalOrder, IsStrictWeakOrder}
-use Rattle.std.specs.List.Sorted.{IsPartitionedBy, IsPartitionPoint}
-use Rattle.std.specs.Ordering.{nat_cmp, is_lt, ordering_then}
+use Rattle.std.proofs.lemmas.{Bool.Decides.nat_tests, Cmp.nat_cmp_total, Cmp.on_total, Cmp.then_total, List.length-map, Option.get_or_from_slice_get, Option.slice_get-get_or}
+use Rattle.std.proofs.lemmas.{Option.slice_get-map, Option.slice_get_within, List.Sorted.ranks_by, List.Sorted.sorted_far}
+use Rattle.std.specs.{Cmp.IsTotalOrder, Cmp.IsStrictWeakOrder, List.Sorted.IsPartitionedBy, List.Sorted.IsPartitionPoint, Ordering.nat_cmp, Ordering.is_lt, Ordering.ordering_then}
 use Rattle.fb_schema.specs.Sorting.{IsOrderOf, entry_cmp}
 use Rattle.fb_schema.proofs.{Numbers.le_or_lt, OrderLemmas.is_key, OrderLemmas.stands, Search.nat_tied}
-use Rattle.fb_strict.specs.declared.holding.Holding.{Holding}
-use Rattle.fb_strict.specs.Holding.{Slotted, field_cmp, field_of, held_in, is_before, is_of, IsFirstPlace}
+use Rattle.fb_strict.specs.{declared.holding.Holding.Holding, Holding.Slotted, Holding.field_cmp, Holding.field_of, Holding.held_in, Holding.is_before, Holding.is_of}
+use Rattle.fb_strict.specs.Holding.{IsFirstPlace}
 use Rattle.fb_strict.proofs.Holds.{find_first, find_none}
 
 -- The order of fields, and of entries.

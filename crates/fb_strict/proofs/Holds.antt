@@ -5,18 +5,13 @@ use Rattle.std.proofs.lemmas.Bool.Decides.{nat_tests}
 use Rattle.std.specs.List.{find, cons_option, list_any}
 use Rattle.std.proofs.Common.{inl, inr, ap}
 use Rattle.fb_rules.specs.Order.{◌▷◌}
-use Rattle.fb_bfbs.specs.Marks.{Held as HeldBy, buffer, flex}
-use Rattle.fb_strict.specs.declared.{demands.Demands.Demands, holding.Holding.Holding, tasks.Held.TheVariants.Buffer}
-use Rattle.fb_strict.specs.Holding.{name_of, holding_with, holding_of, holdings_in, holdings_if, held_in}
-use Rattle.fb_schema.specs.declared.kinds.Kind.{Kind}
-use Rattle.fb_strict.specs.declared.tasks.Held.{Held}
-use Rattle.fb_strict.specs.Demanded.{held_by}
-use Rattle.fb_schema.specs.{Live.Live, Live.live_fields, Rows.Rows, Rows.is_table, Rows.table_named}
-use Rattle.fb_strict.specs.Holding.{found_within, has_bytes, meant, is_lost, IsPlanFault}
-use Rattle.fb_bfbs.specs.{ByteFields.IsField, ByteFields.is_at, ByteFields.is_bytes, Marks.Marked}
-use Rattle.fb_strict.specs.declared.holding.{PlanFault.PlanFault, PlanFault.TheVariants.OutOfMemory, PlanFault.TheVariants.NoSuchTable}
-use Rattle.fb_strict.proofs.Tasking.{within_objects}
-use Rattle.fb_strict.proofs.Marks.{no_fields}
+use Rattle.fb_bfbs.specs.{Marks.Held as HeldBy, Marks.buffer, Marks.flex, ByteFields.IsField, ByteFields.is_at, ByteFields.is_bytes, Marks.Marked}
+use Rattle.fb_strict.specs.{declared.demands.Demands.Demands, declared.holding.Holding.Holding, declared.tasks.Held.TheVariants.Buffer, Holding.name_of, Holding.holding_with}
+use Rattle.fb_strict.specs.{Holding.holding_of, Holding.holdings_in, Holding.holdings_if, Holding.held_in, declared.tasks.Held.Held, Demanded.held_by, Holding.found_within}
+use Rattle.fb_strict.specs.{Holding.has_bytes, Holding.meant, Holding.is_lost, Holding.IsPlanFault, declared.holding.PlanFault.PlanFault}
+use Rattle.fb_strict.specs.declared.holding.PlanFault.TheVariants.{OutOfMemory, NoSuchTable}
+use Rattle.fb_schema.specs.{declared.kinds.Kind.Kind, Live.Live, Live.live_fields, Rows.Rows, Rows.is_table, Rows.table_named}
+use Rattle.fb_strict.proofs.{Tasking.within_objects, Marks.no_fields}
 
 pub no_bytes : (S : Rows) (k slot : ℕ) → is_table S k ≡ false → has_bytes S k slot ≡ false
 no_bytes S k slot h = rw (no_fields S k h) refl

@@ -1,13 +1,9 @@
 -- How a field is asked: by what it holds, or else by its kind.
 use Rattle.std.proofs.Common.{◌≡◌, ◌⊎◌, inl, inr, ℕ, Option, Some, None, option_map, false, refl, sym, ap, arith}
-use Rattle.fb_schema.specs.declared.kinds.{Kind.Kind, Kind.TheVariants.Scalars, Scalar.TheVariants.UByte}
-use Rattle.fb_schema.specs.{Rows.Rows, Live.Live}
+use Rattle.fb_schema.specs.{declared.kinds.Kind.Kind, declared.kinds.Kind.TheVariants.Scalars, declared.kinds.Scalar.TheVariants.UByte, Rows.Rows, Live.Live}
 use Rattle.fb_rules.specs.Order.{◌▷◌}
-use Rattle.fb_strict.specs.declared.tasks.{Held.Held, Ask.Ask, Ask.TheVariants.Bytes}
-use Rattle.fb_strict.specs.Holding.{held_in}
-use Rattle.fb_strict.specs.Demanded.{held_by, held_of}
-use Rattle.fb_strict.specs.Skipped.{Wants, is_kind_asked}
-use Rattle.fb_strict.specs.Planned.{ask_of, asked_of, task_with}
+use Rattle.fb_strict.specs.{declared.tasks.Held.Held, declared.tasks.Ask.Ask, declared.tasks.Ask.TheVariants.Bytes, Holding.held_in, Demanded.held_by, Demanded.held_of}
+use Rattle.fb_strict.specs.{Skipped.Wants, Skipped.is_kind_asked, Planned.ask_of, Planned.asked_of, Planned.task_with}
 
 kind_by : (o : Option Held) (kind : Kind) (held : Held) → held_by o kind ≡ Some held → kind ≡ Scalars UByte
 kind_by o kind held h = grind arith

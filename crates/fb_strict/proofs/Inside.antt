@@ -1,16 +1,13 @@
 -- What all that is asked comes to, where it is met, and of the buffers inside.
 use Rattle.std.proofs.Common.{◌≡◌, ℕ, zero, suc, ◌+◌, ◌≤◌, List, [], ◌∷◌, slice_get, Option, Some, None, Ok, refl, sym, ap, subst, ◌∙◌, arith}
 use Rattle.fb_rules.specs.declared.{fault.Fault.Fault, fault.Report.Report, link.Link.Link, start.Start.Start, start.Ident.Ident}
-use Rattle.fb_rules.specs.{Bounds.AreAllowed, Question.Question, Tree.Tree, Places.target, Stops.reads_failure}
-use Rattle.fb_rules.specs.WellFormed.{IsWellFormed, cost, base}
+use Rattle.fb_rules.specs.{Bounds.AreAllowed, Question.Question, Tree.Tree, Places.target, Stops.reads_failure, WellFormed.IsWellFormed, WellFormed.cost, WellFormed.base}
 use Rattle.fb_rules.specs.Order.{◌▷◌}
 use Rattle.fb_rules.proofs.{Budgets.fewer_reads, Overruns.one_tree}
-use Rattle.fb_strict.specs.declared.inner.Inner.{Inner}
-use Rattle.fb_strict.specs.Planned.{Planned, wants_in}
-use Rattle.fb_strict.specs.Asked.{Demand, ArePlain, AreMet, demand_fault, demands_reads, first_fault, first_links}
-use Rattle.fb_strict.specs.Nested.{bytes_inside, open_at, asked_of, spent_alone, and_reads, and_walk, budget_left, question_inside, IsMet, IsEntered, IsWalked, Course, done, unmet, past, stops, into, through, ComeTo}
-use Rattle.fb_strict.specs.Nested.{end_by, plain_end, PlainLaw, IsGood, GoodInside, GoodIsStrict}
-use Rattle.fb_strict.specs.Laws.{IsOk}
+use Rattle.fb_strict.specs.{declared.inner.Inner.Inner, Planned.Planned, Planned.wants_in, Asked.Demand, Asked.ArePlain, Asked.AreMet, Asked.demand_fault, Asked.demands_reads}
+use Rattle.fb_strict.specs.{Asked.first_fault, Asked.first_links, Nested.bytes_inside, Nested.open_at, Nested.asked_of, Nested.spent_alone, Nested.and_reads, Nested.and_walk}
+use Rattle.fb_strict.specs.Nested.{budget_left, question_inside, IsMet, IsEntered, IsWalked, Course, done, unmet, past, stops, into, through, ComeTo, end_by, plain_end, PlainLaw}
+use Rattle.fb_strict.specs.{Nested.IsGood, Nested.GoodInside, Nested.GoodIsStrict, Laws.IsOk}
 use Rattle.fb_strict.proofs.{Asking.first_met, Asking.passed, Asking.demands_tell, Few.first_reads, Opening.more_reads, Moving.passed_by, Moving.ends_there}
 
 -- Demands without buffers inside.

@@ -4,15 +4,11 @@ use Rattle.std.specs.Prelude.{slice_get, ◌==◌}
 use Rattle.std.proofs.lemmas.{Bool.cases_lt, Bool.Decides.nat_tests, Option.slice_get_within}
 use Rattle.fb_bytes.specs.Word.{Lent}
 use Rattle.fb_schema.specs.{Live.Live, Live.live_fields, Served.IsServed}
-use Rattle.fb_rules.specs.declared.{site.Stop.Stop, table.Child.Child, link.Link.Link}
-use Rattle.fb_rules.specs.declared.checks.Checks.{Checks}
-use Rattle.fb_strict.specs.Strict.{slot_count}
-use Rattle.fb_rules.specs.{Cost.head_reads, Places.vtable, Told.stopped, Told.IsAskedAt}
-use Rattle.fb_strict.specs.{InOrder.is_live_slot, InOrder.slot_failure, Leaves.is_next_slot}
-use Rattle.fb_strict.specs.Asked.{Demand, reading, slot_demand, slots_from, slots_demands}
-use Rattle.fb_strict.specs.Passing.{Passing, Moves, Breaks, GoesOn, SlotsPassed, Opens}
-use Rattle.fb_strict.proofs.Chains.{found_slot, is_slot}
-use Rattle.fb_strict.proofs.Moving.{still, onward, breaks_then, met, unmet}
+use Rattle.fb_rules.specs.{declared.site.Stop.Stop, declared.table.Child.Child, declared.link.Link.Link, declared.checks.Checks.Checks, Cost.head_reads, Places.vtable}
+use Rattle.fb_rules.specs.Told.{stopped, IsAskedAt}
+use Rattle.fb_strict.specs.{Strict.slot_count, InOrder.is_live_slot, InOrder.slot_failure, Leaves.is_next_slot, Asked.Demand, Asked.reading, Asked.slot_demand, Asked.slots_from}
+use Rattle.fb_strict.specs.{Asked.slots_demands, Passing.Passing, Passing.Moves, Passing.Breaks, Passing.GoesOn, Passing.SlotsPassed, Passing.Opens}
+use Rattle.fb_strict.proofs.{Chains.found_slot, Chains.is_slot, Moving.still, Moving.onward, Moving.breaks_then, Moving.met, Moving.unmet}
 
 past_end : {X : Type 0} (xs : List X) (i : ℕ) → slice_get xs i ≡ None → length xs ≤ i
 past_end [] i h = omega arith

@@ -1,14 +1,13 @@
 -- Chains of edges have exactly what was added, and together exactly the objects whose fields lead on.
 use Rattle.std.proofs.Common.{◌≡◌, ◌⊎◌, inl, inr, ℕ, zero, suc, ◌+◌, ◌<◌, ◌≤◌, List, [], ◌∷◌, ◌++◌, length, length-append, take, map, get_or, slice_get, Option, Some, None, true, false, sym, ◌∙◌, ap, subst, refl, arith}
-use Rattle.std.proofs.Math.ListN.{set}
-use Rattle.std.proofs.lemmas.{List.length-set, List.map-append, Grind.take_at_read, Option.slice_get_within, Bool.cases_lt}
-use Rattle.fb_schema.specs.{Rows.Rows, Rows.Enum, Rows.is_table, Rows.is_union, Rows.is_some_union, Live.Live, Live.live_fields, Live.live_of_view, Members.member_of, Members.members_in}
-use Rattle.fb_schema.specs.declared.kinds.Kind.{Kind}
-use Rattle.fb_schema.specs.declared.kinds.Kind.TheVariants.{Scalar, Text, Struct, Table, Union, Scalars, Texts, Structs, Tables, Unions}
-use Rattle.fb_strict.specs.declared.demands.Demands.{Demands}
+use Rattle.std.proofs.{Math.ListN.set, lemmas.List.length-set, lemmas.List.map-append, lemmas.Grind.take_at_read, lemmas.Option.slice_get_within, lemmas.Bool.cases_lt}
+use Rattle.fb_schema.specs.{Rows.Rows, Rows.Enum, Rows.is_table, Rows.is_union, Rows.is_some_union, Live.Live, Live.live_fields, Live.live_of_view, Members.member_of}
+use Rattle.fb_schema.specs.{Members.members_in, declared.kinds.Kind.Kind, declared.kinds.Kind.TheVariants.Scalar, declared.kinds.Kind.TheVariants.Text}
+use Rattle.fb_schema.specs.declared.kinds.Kind.TheVariants.{Struct, Table, Union, Scalars, Texts, Structs, Tables, Unions}
 use Rattle.fb_schema.specs.declared.views.FieldView.{FieldView}
-use Rattle.fb_strict.specs.declared.leads.{Edge.Edge, Ends.Ends, Ends.TheVariants.Objects, Ends.TheVariants.Enums}
-use Rattle.fb_strict.specs.Leading.{MemberLeads, KindLeads, KindNames, OneOf, Names, IsOn, is_first, is_later, last_to, IsFrom, IsChained, HasNone, Grown, Added, HaveBelow, Have, AreLeads}
+use Rattle.fb_strict.specs.declared.{demands.Demands.Demands, leads.Edge.Edge, leads.Ends.Ends, leads.Ends.TheVariants.Objects, leads.Ends.TheVariants.Enums}
+use Rattle.fb_strict.specs.Leading.{MemberLeads, KindLeads, KindNames, OneOf, Names, IsOn, is_first, is_later, last_to, IsFrom, IsChained, HasNone, Grown, Added, HaveBelow, Have}
+use Rattle.fb_strict.specs.Leading.{AreLeads}
 use Rattle.fb_strict.proofs.Marks.{no_fields, past_all, before, last}
 
 some_is : {X : Type 0} (x y : X) → Some x ≡ Some y → x ≡ y

@@ -1,21 +1,19 @@
 -- A pass over an open buffer, within what is left, as one of the whole.
-use Rattle.fb_strict.specs.InOrder.{length_failure, where_asked}
+use Rattle.fb_strict.specs.{InOrder.length_failure, InOrder.where_asked, declared.inner.Inner.Inner, declared.room.Frame.Frame, declared.levels.Level.Level}
+use Rattle.fb_strict.specs.{declared.levels.Unmet.Unmet, Asked.Demand, Asked.demand_fault, Asked.demands_of, Asked.demands_in, Asked.demands_reads, Passing.Passing}
+use Rattle.fb_strict.specs.Passing.{wants_of, IsLeft, IsAskedRow, AreLeft, AreLinked, frame_links, IsStanding, Moves, Breaks, GoesOn, Halts, Went, Begins, Began, IsRooted}
+use Rattle.fb_strict.specs.{Nested.budget_left, Nested.limits_left, Nested.later, Levels.Whole, Levels.IsBegun, Levels.asked_from, Levels.resting, Levels.passing_of}
+use Rattle.fb_strict.specs.Levels.{bytes_of, unmet_by, IsOpened, Reached, Finished, Stopped, Legged, RootBegun}
 use Rattle.std.proofs.Common.{◌≡◌, ℕ, zero, suc, ◌+◌, ◌^◌, ◌≤◌, List, [], ◌∷◌, ◌++◌, length, drop, true, false, Option, Some, None, option_map, Result, Ok, Err, refl, sym, ap, subst, ◌∙◌, arith, length-drop, length-append}
 use Rattle.std.proofs.Math.Seq.{drop-append_seam}
 use Rattle.fb_bytes.specs.Word.{Lent}
-use Rattle.fb_rules.specs.declared.{fault.Fault.Fault, fault.Report.Report, link.Link.Link, site.Halt.Halt, site.LastLink.LastLink, site.LastLink.TheVariants.Behind, site.LastLink.TheVariants.InField}
-use Rattle.fb_rules.specs.declared.{table.Child.Child}
-use Rattle.fb_rules.specs.{Bounds.Bounds, Bounds.AreAllowed, Stops.reads_failure, Told.stopped, Tree.Tree, Unfolds.Unfolds}
-use Rattle.fb_rules.specs.Order.{◌▷◌}
+use Rattle.fb_rules.specs.declared.{fault.Fault.Fault, fault.Report.Report, link.Link.Link, site.Halt.Halt, site.LastLink.LastLink, site.LastLink.TheVariants.Behind}
+use Rattle.fb_rules.specs.{declared.site.LastLink.TheVariants.InField, declared.table.Child.Child, Bounds.Bounds, Bounds.AreAllowed, Stops.reads_failure, Told.stopped, Tree.Tree}
+use Rattle.fb_rules.specs.{Unfolds.Unfolds, Order.◌▷◌}
 use Rattle.fb_rules.proofs.Budgets.{no_reads}
 use Rattle.fb_verify.specs.Stack.{last_link}
-use Rattle.fb_strict.specs.declared.{inner.Inner.Inner, room.Frame.Frame, levels.Level.Level, levels.Unmet.Unmet}
-use Rattle.fb_strict.specs.Asked.{Demand, demand_fault, demands_of, demands_in, demands_reads}
-use Rattle.fb_strict.specs.Passing.{Passing, wants_of, IsLeft, IsAskedRow, AreLeft, AreLinked, frame_links, IsStanding, Moves, Breaks, GoesOn, Halts, Went, Begins, Began, IsRooted}
-use Rattle.fb_strict.specs.Nested.{budget_left, limits_left, later}
-use Rattle.fb_strict.specs.Levels.{Whole, IsBegun, asked_from, resting, passing_of, bytes_of, unmet_by, IsOpened, Reached, Finished, Stopped, Legged, RootBegun}
-use Rattle.fb_strict.proofs.Buffers.{length_demand, rest_of, long, quiet}
-use Rattle.fb_strict.proofs.{Looping.halts_then, Moving.onward, Shifted.shifted, Shifted.budget, Shifted.fault_later, Moving.same_reads, Few.first_reads, Stacks.some_deep}
+use Rattle.fb_strict.proofs.{Buffers.length_demand, Buffers.rest_of, Buffers.long, Buffers.quiet, Looping.halts_then, Moving.onward, Shifted.shifted, Shifted.budget}
+use Rattle.fb_strict.proofs.{Shifted.fault_later, Moving.same_reads, Few.first_reads, Stacks.some_deep}
 
 -- Frames stand for the same within other limits.
 

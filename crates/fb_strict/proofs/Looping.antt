@@ -1,18 +1,16 @@
 -- The turns of a pass, one after another.
-use Rattle.std.proofs.Math.ListN.{set, length-set}
-use Rattle.std.proofs.lemmas.List.{get_or-set_same, append-nil}
+use Rattle.std.proofs.{Math.ListN.set, Math.ListN.length-set, lemmas.List.get_or-set_same, lemmas.List.append-nil}
 use Rattle.std.proofs.Common.{◌≡◌, ◌⊎◌, inl, inr, Option, Some, None, ℕ, ◌+◌, ◌*◌, ◌-◌, ◌^◌, ◌<◌, ◌≤◌, List, [], ◌∷◌, ◌++◌, length, Result, Ok, Err, refl, sym, ap, subst, ◌∙◌, arith}
 use Rattle.fb_bytes.specs.Word.{Lent}
 use Rattle.fb_rules.specs.declared.{site.Stop.Stop, site.Halt.Halt, site.LastLink.TheVariants.Behind, table.Child.Child, table.Head.Head, table.Table.Table as TableOf}
-use Rattle.fb_verify.specs.Stack.{last_link}
 use Rattle.fb_rules.specs.{Bounds.AreAllowed, Told.stopped, Told.IsHead}
+use Rattle.fb_verify.specs.Stack.{last_link}
 use Rattle.fb_strict.specs.declared.{inner.Inner.Inner, room.Frame.Frame, pass.Turned.Turned, pass.Turned.TheVariants.Open, pass.Turned.TheVariants.Inside}
-use Rattle.fb_strict.specs.Asked.{Demand, demands_reads}
-use Rattle.fb_strict.specs.Passing.{Passing, Opens, opening, IsPassing, blank, opened, frame_links, AreLinked, IsNext, AreLeft, Breaks, Moves, GoesOn, Halts, Turns, HasTurned, Enters, Meets, IsStanding, work_left, frames_work, WentBy, WentOn, Began, wants_of}
-use Rattle.fb_strict.proofs.Moving.{still, onward, same_reads, still_allowed, breaks_then}
-use Rattle.fb_strict.proofs.Few.{first_reads}
-use Rattle.fb_strict.specs.declared.room.Frame.{Frame}
-use Rattle.fb_strict.proofs.{Frames.opened_left, Frames.head_first, Stacks.some_deep}
+use Rattle.fb_strict.specs.{Asked.Demand, Asked.demands_reads, Passing.Passing, Passing.Opens, Passing.opening, Passing.IsPassing, Passing.blank, Passing.opened}
+use Rattle.fb_strict.specs.Passing.{frame_links, AreLinked, IsNext, AreLeft, Breaks, Moves, GoesOn, Halts, Turns, HasTurned, Enters, Meets, IsStanding, work_left, frames_work}
+use Rattle.fb_strict.specs.{Passing.WentBy, Passing.WentOn, Passing.Began, Passing.wants_of, declared.room.Frame.Frame}
+use Rattle.fb_strict.proofs.{Moving.still, Moving.onward, Moving.same_reads, Moving.still_allowed, Moving.breaks_then, Few.first_reads, Frames.opened_left, Frames.head_first}
+use Rattle.fb_strict.proofs.Stacks.{some_deep}
 
 pub joined : (p : Passing) (m mid new : Lent) (ds some left : List Demand) → GoesOn p m mid ds some → GoesOn p mid new some left → GoesOn p m new ds left
 joined p m mid new ds some left f g =

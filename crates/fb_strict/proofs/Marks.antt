@@ -3,17 +3,14 @@ use Rattle.std.proofs.Common.{◌≡◌, ◌↔◌, ℕ, zero, suc, ◌+◌, ◌
 use Rattle.std.specs.List.{list_any}
 use Rattle.std.specs.Prelude.{◌||◌}
 use Rattle.fb_strict.proofs.Lists.{or_by, or_first, or_later}
-use Rattle.fb_strict.specs.Demanded.{Demanded}
+use Rattle.fb_strict.specs.{Demanded.Demanded, Leading.KindIsThere, Skipped.Wants, Skipped.is_member_asked, Skipped.some_member, Skipped.is_kind_asked, Skipped.has_held}
+use Rattle.fb_strict.specs.{Skipped.has_asked, Skipped.reaches_demand, Skipped.ReachesDemand, Marking.AreClosed, declared.tasks.Task.Task, Planned.marked, Planned.marked_wants}
+use Rattle.fb_strict.specs.Planned.{all_wants, tasks_in, AreFounded, AreMarks, AreTasks, OnePlanLaw}
 use Rattle.std.proofs.lemmas.{Option.slice_get_past, Bool.cases_lt}
-use Rattle.fb_schema.specs.declared.kinds.Kind.{Kind}
-use Rattle.fb_schema.specs.declared.kinds.Kind.TheVariants.{Scalar, Text, Struct, Table, Union, Scalars, Texts, Structs, Tables, Unions}
-use Rattle.fb_schema.specs.{Rows.Rows, Rows.Object, Rows.is_table, Rows.is_some_table, Live.Live, Live.live_in, Live.live_fields, Live.live_of_view, Members.member_of, Served.IsServed, Served.KindHolds}
-use Rattle.fb_schema.specs.declared.views.FieldView.{FieldView}
-use Rattle.fb_strict.specs.Leading.{KindIsThere}
-use Rattle.fb_strict.specs.Skipped.{Wants, is_member_asked, some_member, is_kind_asked, has_held, has_asked, reaches_demand, ReachesDemand}
-use Rattle.fb_strict.specs.Marking.{AreClosed}
-use Rattle.fb_strict.specs.declared.tasks.Task.{Task}
-use Rattle.fb_strict.specs.Planned.{marked, marked_wants, all_wants, tasks_in, AreFounded, AreMarks, AreTasks, OnePlanLaw}
+use Rattle.fb_schema.specs.declared.kinds.Kind.{Kind, TheVariants.Scalar, TheVariants.Text, TheVariants.Struct, TheVariants.Table, TheVariants.Union, TheVariants.Scalars}
+use Rattle.fb_schema.specs.declared.kinds.Kind.TheVariants.{Texts, Structs, Tables, Unions}
+use Rattle.fb_schema.specs.{Rows.Rows, Rows.Object, Rows.is_table, Rows.is_some_table, Live.Live, Live.live_in, Live.live_fields, Live.live_of_view, Members.member_of}
+use Rattle.fb_schema.specs.{Served.IsServed, Served.KindHolds, declared.views.FieldView.FieldView}
 
 -- an object that is no table has no live fields
 no_fields_in : (S : Rows) (o : Option Object) → is_some_table o ≡ false → live_in S o ≡ []

@@ -2,11 +2,10 @@
 use Rattle.std.proofs.Common.{◌≡◌, ℕ, ◌+◌, List, [], ◌∷◌, ◌++◌, Option, Some, None, Result, Ok, Err, refl, sym, ap, subst, ◌∙◌, append_assoc, arith}
 use Rattle.std.proofs.lemmas.List.Sums.{sum_by-cons, sum_by-append}
 use Rattle.fb_bytes.specs.Word.{Lent}
-use Rattle.fb_rules.specs.declared.{fault.Fault.Fault, site.Site.Site, site.Stop.Stop, link.Link.Link}
-use Rattle.fb_rules.specs.{Bounds.Bounds, Bounds.AreAllowed, Stops.reads_failure, Told.told, Told.stopped, Told.IsAskedAt}
-use Rattle.fb_rules.specs.Order.{Failure, ◌▷◌}
-use Rattle.fb_strict.specs.Asked.{Demand, ArePlain, demand_fault, demands_reads, first_fault, links_where}
-use Rattle.fb_strict.specs.Passing.{Passing, Moves, Breaks, GoesOn}
+use Rattle.fb_rules.specs.{declared.fault.Fault.Fault, declared.site.Site.Site, declared.site.Stop.Stop, declared.link.Link.Link, Bounds.Bounds, Bounds.AreAllowed}
+use Rattle.fb_rules.specs.{Stops.reads_failure, Told.told, Told.stopped, Told.IsAskedAt, Order.Failure, Order.◌▷◌}
+use Rattle.fb_strict.specs.{Asked.Demand, Asked.ArePlain, Asked.demand_fault, Asked.demands_reads, Asked.first_fault, Asked.links_where, Passing.Passing, Passing.Moves}
+use Rattle.fb_strict.specs.Passing.{Breaks, GoesOn}
 use Rattle.fb_strict.proofs.Asking.{passed, told_allowed, first_met, first_tells}
 
 -- the site of a demand

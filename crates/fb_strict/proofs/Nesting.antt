@@ -1,13 +1,11 @@
 -- Demands come to one end.
 use Rattle.std.proofs.Common.{◌≡◌, ℕ, ◌+◌, List, [], ◌∷◌, inl, inr, Some, None, Result, Ok, Err, refl, sym, ap, subst, ◌∙◌}
-use Rattle.fb_rules.specs.declared.{fault.Fault.Fault, fault.Report.Report, link.Link.Link}
-use Rattle.fb_rules.specs.{Bounds.Bounds, Question.Question, Tree.Tree, Places.target, Stops.Stops, Stops.reads_failure, Links.StopsAlong}
-use Rattle.fb_rules.specs.Order.{◌▷◌}
+use Rattle.fb_rules.specs.{declared.fault.Fault.Fault, declared.fault.Report.Report, declared.link.Link.Link, Bounds.Bounds, Question.Question, Tree.Tree, Places.target}
+use Rattle.fb_rules.specs.{Stops.Stops, Stops.reads_failure, Links.StopsAlong, Order.◌▷◌}
 use Rattle.fb_rules.proofs.{Overruns.one_tree, Overruns.stops_nowhere, OneFault.stops_once, OneFault.leads_one_way}
-use Rattle.fb_strict.specs.declared.inner.Inner.{Inner}
-use Rattle.fb_strict.specs.Planned.{Planned}
-use Rattle.fb_strict.specs.Asked.{Demand, demand_fault}
-use Rattle.fb_strict.specs.Nested.{bytes_inside, open_at, asked_of, and_reads, and_walk, question_inside, walk_inside, IsMet, IsWalked, Refused, outward, later, Course, done, unmet, past, stops, into, through, ComeTo, ComeToOneEnd}
+use Rattle.fb_strict.specs.{declared.inner.Inner.Inner, Planned.Planned, Asked.Demand, Asked.demand_fault, Nested.bytes_inside, Nested.open_at, Nested.asked_of, Nested.and_reads}
+use Rattle.fb_strict.specs.Nested.{and_walk, question_inside, walk_inside, IsMet, IsWalked, Refused, outward, later, Course, done, unmet, past, stops, into, through, ComeTo}
+use Rattle.fb_strict.specs.Nested.{ComeToOneEnd}
 use Rattle.fb_strict.proofs.Asking.{told_allowed}
 
 pub stops_of : (q : Question) (b : List ℕ) (f : Fault) (links : List Link) → StopsAlong q b f links → Stops q b f

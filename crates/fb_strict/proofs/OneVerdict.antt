@@ -1,13 +1,12 @@
 -- At most one strict answer applies to a question, and what a strict ok says beside.
 use Rattle.std.proofs.Common.{◌≡◌, ℕ, inl, inr, List, Result, Ok, Err, ap, subst}
-use Rattle.fb_rules.specs.declared.{fault.Fault.Fault, fault.Report.Report}
-use Rattle.fb_rules.specs.{Question.Question, Places.target, WellFormed.base}
+use Rattle.fb_rules.specs.{declared.fault.Fault.Fault, declared.fault.Report.Report, Question.Question, Places.target, WellFormed.base}
 use Rattle.fb_rules.proofs.{Overruns.one_tree, Overruns.stops_nowhere, OneFault.stops_once}
-use Rattle.fb_strict.specs.Planned.{Planned}
-use Rattle.fb_strict.specs.Nested.{Refused, ComeTo, EndsWith, IsBad, spent_alone, asked_of}
-use Rattle.fb_strict.specs.Strictly.{ReportsStrictly, HasNoneStrictly, StopsStrictly}
-use Rattle.fb_strict.specs.Laws.{StrictIsOk, UnionsLeadInside, AllTextsAreUtf8, NoFieldIsUnknown, HasOneStrictVerdict}
-use Rattle.fb_strict.proofs.{Reading.value_inside, Reading.element_inside, Reading.texts_utf8, Reading.slots_known, Buffers.plan_closed, Nesting.come_to_one_end, Inside.good_is_ok, Inside.good_is_strict, Inside.same_tree}
+use Rattle.fb_strict.specs.{Planned.Planned, Nested.Refused, Nested.ComeTo, Nested.EndsWith, Nested.IsBad, Nested.spent_alone, Nested.asked_of, Strictly.ReportsStrictly}
+use Rattle.fb_strict.specs.{Strictly.HasNoneStrictly, Strictly.StopsStrictly, Laws.StrictIsOk, Laws.UnionsLeadInside, Laws.AllTextsAreUtf8, Laws.NoFieldIsUnknown}
+use Rattle.fb_strict.specs.Laws.{HasOneStrictVerdict}
+use Rattle.fb_strict.proofs.{Reading.value_inside, Reading.element_inside, Reading.texts_utf8, Reading.slots_known, Buffers.plan_closed, Nesting.come_to_one_end, Inside.good_is_ok}
+use Rattle.fb_strict.proofs.Inside.{good_is_strict, same_tree}
 
 pub strict_is_ok : StrictIsOk
 strict_is_ok p q b r h = good_is_ok p q b r h

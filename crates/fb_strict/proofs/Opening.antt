@@ -1,13 +1,11 @@
 -- How open buffers go on: what is left of them comes to no other end.
 use Rattle.std.proofs.Common.{◌≡◌, ℕ, ◌+◌, List, [], ◌∷◌, ◌++◌, inl, inr, Some, None, Result, Ok, Err, refl, sym, ap, subst, ◌∙◌, append_assoc, arith}
-use Rattle.fb_rules.specs.declared.{fault.Fault.Fault, fault.Report.Report, link.Link.Link}
-use Rattle.fb_rules.specs.{Question.Question, Tree.Tree, Stops.reads_failure, Links.StopsAlong}
+use Rattle.fb_rules.specs.{declared.fault.Fault.Fault, declared.fault.Report.Report, declared.link.Link.Link, Question.Question, Tree.Tree, Stops.reads_failure, Links.StopsAlong}
 use Rattle.fb_rules.specs.Order.{◌▷◌}
-use Rattle.fb_strict.specs.declared.inner.Inner.{Inner}
-use Rattle.fb_strict.specs.Planned.{Planned}
-use Rattle.fb_strict.specs.Asked.{Demand, ArePlain, demand_fault, demands_reads, first_fault}
-use Rattle.fb_strict.specs.Nested.{bytes_inside, open_at, asked_of, and_reads, and_walk, question_inside, walk_inside, IsEntered, IsWalked, Refused, place_in, outward, later, Course, done, unmet, past, stops, into, through, ComeTo}
-use Rattle.fb_strict.specs.Levels.{Opened, in_whole, opened_inside, LevelsComeTo}
+use Rattle.fb_strict.specs.{declared.inner.Inner.Inner, Planned.Planned, Asked.Demand, Asked.ArePlain, Asked.demand_fault, Asked.demands_reads, Asked.first_fault}
+use Rattle.fb_strict.specs.Nested.{bytes_inside, open_at, asked_of, and_reads, and_walk, question_inside, walk_inside, IsEntered, IsWalked, Refused, place_in, outward, later}
+use Rattle.fb_strict.specs.{Nested.Course, Nested.done, Nested.unmet, Nested.past, Nested.stops, Nested.into, Nested.through, Nested.ComeTo, Levels.Opened, Levels.in_whole}
+use Rattle.fb_strict.specs.Levels.{opened_inside, LevelsComeTo}
 use Rattle.fb_strict.proofs.{Asking.first_met, Few.first_reads}
 
 -- so many reads, and then others

@@ -1,32 +1,25 @@
 -- A strict verdict costs few reads, and a fault comes soon after what was asked before it.
 use Rattle.std.proofs.Common.{◌≡◌, ℕ, zero, suc, ◌+◌, ◌-◌, ◌≤◌, Bool, true, false, if◌then◌else◌, List, [], ◌∷◌, ◌++◌, length, refl, arith, Option, Some, None}
 use Rattle.std.proofs.lemmas.Bool.Decides.{nat_tests}
-use Rattle.fb_schema.specs.declared.kinds.Kind.{Kind}
-use Rattle.fb_schema.specs.declared.kinds.Kind.TheVariants.{Scalar, Text, Struct, Table, Union, Scalars, Texts, Structs, Tables, Unions}
+use Rattle.fb_schema.specs.declared.kinds.Kind.{Kind, TheVariants.Scalar, TheVariants.Text, TheVariants.Struct, TheVariants.Table, TheVariants.Union, TheVariants.Scalars}
+use Rattle.fb_schema.specs.declared.kinds.Kind.TheVariants.{Texts, Structs, Tables, Unions}
 use Rattle.fb_schema.specs.{Rows.Rows, Live.Live, Live.live_fields}
-use Rattle.fb_rules.specs.declared.{checks.Checks.Checks, fault.Fault.Fault, fault.Reason.TheVariants.TooManyReads, link.Link.Link}
-use Rattle.fb_rules.specs.{Bounds.Bounds, Bounds.AreAllowed, Bounds.allowed, Places.target, Places.field_place, Fields.type_place}
-use Rattle.fb_rules.specs.{MostReads.within_budget, Stops.reads_failure}
-use Rattle.fb_rules.specs.Order.{Failure, check, after, ◌▷◌, offset_failure}
-use Rattle.fb_rules.specs.Tree.{Tree, node, Kids, no_kids, kid, Elements, no_elements, element, Element, leaf, table, size}
-use Rattle.fb_strict.proofs.Referents.{IsAnswered, IsRowOf}
-use Rattle.fb_rules.specs.declared.{offset_row.Leads.Leads, offset_row.Leads.TheVariants.All, offset_row.Leads.TheVariants.ByType, offset_row.Referent.Referent}
-use Rattle.fb_rules.specs.declared.offset_row.Referent.TheVariants.{Text as AText, Table as ATable, Struct as AStruct, Nothing}
-use Rattle.fb_strict.specs.Strict.{slot_count}
-use Rattle.fb_rules.specs.{Facts.IsOffset, Facts.IsString, OffsetRows.leads_after, Links.field_link, Links.element_link}
-use Rattle.fb_rules.specs.Fields.{Lead, to_table, to_struct, to_string, to_nothing, Entry, entries}
-use Rattle.fb_rules.specs.Unfolds.{Unfolds, FieldsUnfold, ElementsUnfold, ElementUnfolds}
-use Rattle.fb_rules.proofs.{Few.head_few, Few.slot_few, Few.if_present_few}
-use Rattle.fb_strict.specs.InOrder.{where_asked, length_failure, inside_failure, value_failure, value_reads, union_failure, union_reads}
-use Rattle.fb_strict.specs.InOrder.{together_failure, typed_failure, typed_reads, element_failure, element_reads, text_failure}
-use Rattle.fb_strict.specs.Asked.{Demand, held_demands, reading, slot_demand, slots_from, vectors_reads, field_demands, row_leads, row_place, first_referent, element_demands, text_demands, object_of}
-use Rattle.fb_strict.specs.Asked.{demands_in, demands_in_fields, demands_in_row, demands_below, demands_of, demands_reads, demand_fault, first_fault}
-use Rattle.fb_strict.specs.{MostReads.within_past, Skipped.Wants, Skipped.is_kind_asked}
-use Rattle.fb_strict.specs.Demanded.{held_of}
-use Rattle.fb_strict.specs.declared.tasks.{Held.Held, Held.TheVariants.Buffer, Held.TheVariants.Flex}
-use Rattle.fb_rules.specs.Cost.{slot_reads}
-use Rattle.fb_strict.specs.InOrder.{flex_failure}
-use Rattle.fb_strict.proofs.{Few.first_reads, Few.union_few, Few.vectors_few, Few.element_few, Few.its_row}
+use Rattle.fb_rules.specs.{declared.checks.Checks.Checks, declared.fault.Fault.Fault, declared.fault.Reason.TheVariants.TooManyReads, declared.link.Link.Link, Bounds.Bounds}
+use Rattle.fb_rules.specs.{Bounds.AreAllowed, Bounds.allowed, Places.target, Places.field_place, Fields.type_place, MostReads.within_budget, Stops.reads_failure, Order.Failure}
+use Rattle.fb_rules.specs.{Order.check, Order.after, Order.◌▷◌, Order.offset_failure, Tree.Tree, Tree.node, Tree.Kids, Tree.no_kids, Tree.kid, Tree.Elements, Tree.no_elements}
+use Rattle.fb_rules.specs.{Tree.element, Tree.Element, Tree.leaf, Tree.table, Tree.size, declared.offset_row.Leads.Leads, declared.offset_row.Leads.TheVariants.All}
+use Rattle.fb_rules.specs.declared.offset_row.{Leads.TheVariants.ByType, Referent.Referent, Referent.TheVariants.Text as AText, Referent.TheVariants.Table as ATable}
+use Rattle.fb_rules.specs.{declared.offset_row.Referent.TheVariants.Struct as AStruct, declared.offset_row.Referent.TheVariants.Nothing, Facts.IsOffset, Facts.IsString}
+use Rattle.fb_rules.specs.{OffsetRows.leads_after, Links.field_link, Links.element_link, Fields.Lead, Fields.to_table, Fields.to_struct, Fields.to_string, Fields.to_nothing}
+use Rattle.fb_rules.specs.{Fields.Entry, Fields.entries, Unfolds.Unfolds, Unfolds.FieldsUnfold, Unfolds.ElementsUnfold, Unfolds.ElementUnfolds, Cost.slot_reads}
+use Rattle.fb_strict.proofs.{Referents.IsAnswered, Referents.IsRowOf, Few.first_reads, Few.union_few, Few.vectors_few, Few.element_few, Few.its_row}
+use Rattle.fb_strict.specs.{Strict.slot_count, InOrder.where_asked, InOrder.length_failure, InOrder.inside_failure, InOrder.value_failure, InOrder.value_reads}
+use Rattle.fb_strict.specs.InOrder.{union_failure, union_reads, together_failure, typed_failure, typed_reads, element_failure, element_reads, text_failure}
+use Rattle.fb_strict.specs.Asked.{Demand, held_demands, reading, slot_demand, slots_from, vectors_reads, field_demands, row_leads, row_place, first_referent, element_demands}
+use Rattle.fb_strict.specs.Asked.{text_demands, object_of, demands_in, demands_in_fields, demands_in_row, demands_below, demands_of, demands_reads, demand_fault, first_fault}
+use Rattle.fb_strict.specs.{MostReads.within_past, Skipped.Wants, Skipped.is_kind_asked, Demanded.held_of, declared.tasks.Held.Held, declared.tasks.Held.TheVariants.Buffer}
+use Rattle.fb_strict.specs.{declared.tasks.Held.TheVariants.Flex, InOrder.flex_failure}
+use Rattle.fb_rules.proofs.Few.{head_few, slot_few, if_present_few}
 
 -- no failure of the chain comes after more reads
 abbrev pub AtMost : ℕ → Option Failure → Type 0

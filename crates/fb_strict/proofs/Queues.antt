@@ -2,20 +2,17 @@
 use Rattle.std.proofs.Common.{◌≡◌, ◌⊎◌, inl, inr, ℕ, zero, suc, ◌+◌, ◌<◌, ◌≤◌, List, [], ◌∷◌, ◌++◌, length, length-append, replicate, slice_get, get_or, Option, Some, None, Bool, true, false, not, cond, sym, ◌∙◌, ap, subst, refl, arith}
 use Rattle.std.specs.List.{list_any, count_by}
 use Rattle.std.specs.Prelude.{◌||◌, is_some}
-use Rattle.fb_strict.proofs.Lists.{or_by, or_first, or_later}
-use Rattle.fb_strict.specs.Demanded.{Demanded, flags, held_of}
-use Rattle.std.proofs.Math.ListN.{set}
-use Rattle.std.proofs.lemmas.{List.length-set, List.length-replicate, List.Sums.sum_by-set, Option.slice_get_within, Option.slice_get-get_or, Bool.cases_lt, Bool.cases_Bool}
-use Rattle.fb_schema.specs.declared.kinds.Kind.{Kind}
-use Rattle.fb_schema.specs.declared.kinds.Kind.TheVariants.{Scalar, Text, Struct, Table, Union, Scalars, Texts, Structs, Tables, Unions}
+use Rattle.fb_strict.proofs.{Lists.or_by, Lists.or_first, Lists.or_later, Marks.no_fields, Marks.past_all, Marks.before, Marks.last, Marks.reaches, Leading.none_on}
+use Rattle.fb_strict.proofs.Leading.{first_or_later}
+use Rattle.fb_strict.specs.{Demanded.Demanded, Demanded.flags, Demanded.held_of, declared.leads.Edge.Edge, Leading.MemberLeads, Leading.KindLeads, Leading.OneOf, Leading.LeadsTo}
+use Rattle.fb_strict.specs.{Leading.IsOn, Leading.is_first, Leading.is_later, Marking.IsQueue, Marking.NoneMarked, Marking.Grew, Marking.Spread, Marking.AreClosed}
+use Rattle.fb_strict.specs.{Marking.OwnMarked, Planned.marked, Planned.marked_wants, Planned.AreFounded, Skipped.Wants, Skipped.is_member_asked, Skipped.some_member}
+use Rattle.fb_strict.specs.Skipped.{is_kind_asked, has_held, has_asked, ReachesDemand}
+use Rattle.std.proofs.{Math.ListN.set, lemmas.List.length-set, lemmas.List.length-replicate, lemmas.List.Sums.sum_by-set, lemmas.Option.slice_get_within}
+use Rattle.std.proofs.lemmas.{Option.slice_get-get_or, Bool.cases_lt, Bool.cases_Bool}
+use Rattle.fb_schema.specs.declared.kinds.Kind.{Kind, TheVariants.Scalar, TheVariants.Text, TheVariants.Struct, TheVariants.Table, TheVariants.Union, TheVariants.Scalars}
+use Rattle.fb_schema.specs.declared.kinds.Kind.TheVariants.{Texts, Structs, Tables, Unions}
 use Rattle.fb_schema.specs.{Rows.Rows, Rows.is_table, Live.Live, Live.live_fields, Members.member_of}
-use Rattle.fb_strict.specs.declared.leads.Edge.{Edge}
-use Rattle.fb_strict.specs.Leading.{MemberLeads, KindLeads, OneOf, LeadsTo, IsOn, is_first, is_later}
-use Rattle.fb_strict.specs.Marking.{IsQueue, NoneMarked, Grew, Spread, AreClosed, OwnMarked}
-use Rattle.fb_strict.specs.{Planned.marked, Planned.marked_wants, Planned.AreFounded}
-use Rattle.fb_strict.specs.Skipped.{Wants, is_member_asked, some_member, is_kind_asked, has_held, has_asked, ReachesDemand}
-use Rattle.fb_strict.proofs.Marks.{no_fields, past_all, before, last, reaches}
-use Rattle.fb_strict.proofs.Leading.{none_on, first_or_later}
 
 -- marks
 

@@ -1,13 +1,11 @@
 -- Every table of a strict tree meets the demands of each of its fields.
 use Rattle.std.proofs.Common.{◌≡◌, inl, inr, ℕ, List, Option, refl}
-use Rattle.fb_schema.specs.declared.kinds.Kind.{Kind, TheVariants.Union, TheVariants.Unions}
-use Rattle.fb_schema.specs.{Rows.Rows}
-use Rattle.fb_rules.specs.declared.checks.Checks.{Checks}
-use Rattle.fb_rules.specs.{Places.field_place, Fields.type_place}
-use Rattle.fb_rules.specs.Tree.{Tree, node, Kids, no_kids, kid, Elements, no_elements, element, Element, leaf, table}
-use Rattle.fb_strict.specs.Demanded.{Demanded}
-use Rattle.fb_strict.specs.Strict.{LeadsInside, IsStrict, KidsAreStrict, ElementsAreStrict, ElementIsStrict, HasStrictUnions, IsStrictTable}
-use Rattle.fb_strict.specs.Readers.{HasNode, KidsHave, ElementsHave, ElementHas, MayFollow, TablesLaw, ValuesLaw, ElementsLaw, TextsLaw, SlotsLaw}
+use Rattle.fb_schema.specs.{declared.kinds.Kind.Kind, declared.kinds.Kind.TheVariants.Union, declared.kinds.Kind.TheVariants.Unions, Rows.Rows}
+use Rattle.fb_rules.specs.{declared.checks.Checks.Checks, Places.field_place, Fields.type_place, Tree.Tree, Tree.node, Tree.Kids, Tree.no_kids, Tree.kid, Tree.Elements}
+use Rattle.fb_rules.specs.Tree.{no_elements, element, Element, leaf, table}
+use Rattle.fb_strict.specs.{Demanded.Demanded, Strict.LeadsInside, Strict.IsStrict, Strict.KidsAreStrict, Strict.ElementsAreStrict, Strict.ElementIsStrict, Strict.HasStrictUnions}
+use Rattle.fb_strict.specs.{Strict.IsStrictTable, Readers.HasNode, Readers.KidsHave, Readers.ElementsHave, Readers.ElementHas, Readers.MayFollow, Readers.TablesLaw}
+use Rattle.fb_strict.specs.Readers.{ValuesLaw, ElementsLaw, TextsLaw, SlotsLaw}
 
 module _ (D : Demanded) (c : Checks) (b : List ℕ) (S : Rows) where
   module _ (k t : ℕ) where

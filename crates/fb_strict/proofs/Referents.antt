@@ -1,15 +1,14 @@
 -- What the uoffsets of a field that is asked lead to, as the pass has it, is what they lead to.
 use Rattle.std.proofs.Common.{◌≡◌, ◌⊎◌, inl, inr, ℕ, zero, suc, ◌+◌, IsTrue, List, [], ◌∷◌, Option, Some, None, Bool, true, false, refl, sym, ap, ◌∙◌, if◌then◌else◌}
 use Rattle.fb_bytes.specs.Word.{word}
-use Rattle.fb_schema.specs.declared.kinds.Kind.{Kind}
-use Rattle.fb_schema.specs.declared.kinds.Kind.TheVariants.{Scalar, Text, Struct, Table, Union, Scalars, Texts, Structs, Tables, Unions}
+use Rattle.fb_schema.specs.declared.kinds.Kind.{Kind, TheVariants.Scalar, TheVariants.Text, TheVariants.Struct, TheVariants.Table, TheVariants.Union, TheVariants.Scalars}
+use Rattle.fb_schema.specs.declared.kinds.Kind.TheVariants.{Texts, Structs, Tables, Unions}
 use Rattle.fb_schema.specs.{Rows.Rows, Rows.is_table, Live.Live, Members.member_of, Served.MemberHolds}
-use Rattle.fb_rules.specs.declared.{offset_row.Leads.Leads, offset_row.Leads.TheVariants.All, offset_row.Leads.TheVariants.ByType, offset_row.Referent.Referent}
-use Rattle.fb_rules.specs.declared.offset_row.Referent.TheVariants.{Text as AText, Table as ATable, Struct as AStruct, Nothing}
-use Rattle.fb_rules.specs.{OffsetRows.leads_after}
-use Rattle.fb_rules.specs.Fields.{Lead, to_table, to_string, to_nothing, lead_of, Entry, row, union_row, union_entry, entries_of, entries_at, type_place, union_type}
-use Rattle.fb_strict.specs.{Skipped.Wants, Skipped.is_kind_asked}
-use Rattle.fb_strict.specs.Asked.{asked_referent, row_leads, row_place, first_referent}
+use Rattle.fb_rules.specs.declared.offset_row.{Leads.Leads, Leads.TheVariants.All, Leads.TheVariants.ByType, Referent.Referent, Referent.TheVariants.Text as AText}
+use Rattle.fb_rules.specs.declared.offset_row.Referent.TheVariants.{Table as ATable, Struct as AStruct, Nothing}
+use Rattle.fb_rules.specs.{OffsetRows.leads_after, Fields.Lead, Fields.to_table, Fields.to_string, Fields.to_nothing, Fields.lead_of, Fields.Entry, Fields.row, Fields.union_row}
+use Rattle.fb_rules.specs.Fields.{union_entry, entries_of, entries_at, type_place, union_type}
+use Rattle.fb_strict.specs.{Skipped.Wants, Skipped.is_kind_asked, Asked.asked_referent, Asked.row_leads, Asked.row_place, Asked.first_referent}
 
 module _ (w : Wants) where
   -- a uoffset that leads there leads to this, if that is asked

@@ -3,18 +3,16 @@ use Rattle.std.proofs.Common.{◌⊎◌, inl, inr, ◌≡◌, ℕ, ◌-◌, ◌<
 use Rattle.std.specs.Prelude.{slice_get, slice_index_or}
 use Rattle.std.proofs.lemmas.Option.{get_or_from_slice_get}
 use Rattle.fb_bytes.specs.Word.{word}
-use Rattle.fb_schema.specs.declared.kinds.Kind.{Kind}
-use Rattle.fb_schema.specs.declared.kinds.Kind.TheVariants.{Scalar, Text, Struct, Table, Union, Scalars, Texts, Structs, Tables, Unions}
-use Rattle.fb_schema.specs.{Live.Live}
+use Rattle.fb_schema.specs.declared.kinds.Kind.{Kind, TheVariants.Scalar, TheVariants.Text, TheVariants.Struct, TheVariants.Table, TheVariants.Union, TheVariants.Scalars}
+use Rattle.fb_schema.specs.declared.kinds.Kind.TheVariants.{Texts, Structs, Tables, Unions}
+use Rattle.fb_schema.specs.Live.{Live}
 use Rattle.fb_rules.specs.{Places.target, Places.field_place, Fields.type_place, Fields.type_count}
 use Rattle.fb_rules.proofs.Typed.{present}
-use Rattle.fb_strict.specs.declared.{room.Frame.Frame, tasks.Ask.Ask, tasks.Task.Task}
-use Rattle.fb_strict.specs.declared.tasks.Ask.TheVariants.{Text as AskText, Texts as AskTexts, Union as AskUnion, Unions as AskUnions, Table as GoInto, Tables as GoIntoEach, Bytes as AskBytes}
-use Rattle.fb_strict.proofs.How.{IsHeld, IsOfKind, how}
-use Rattle.fb_strict.specs.Planned.{IsPlan, ask_by}
-use Rattle.fb_strict.specs.Passing.{Passing, wants_of, IsKnown, IsTaskable, ask_words, task_words, task_link, link_behind, frame_link, IsLinked}
-use Rattle.fb_strict.specs.Reread.{WordsStand, MemberStands}
-use Rattle.fb_strict.proofs.{Fields.asked_by, Fields.IsTask, Fields.task_is, Tasking.taskable_how}
+use Rattle.fb_strict.specs.declared.{room.Frame.Frame, tasks.Ask.Ask, tasks.Task.Task, tasks.Ask.TheVariants.Text as AskText, tasks.Ask.TheVariants.Texts as AskTexts}
+use Rattle.fb_strict.specs.declared.tasks.Ask.TheVariants.{Union as AskUnion, Unions as AskUnions, Table as GoInto, Tables as GoIntoEach, Bytes as AskBytes}
+use Rattle.fb_strict.specs.{Planned.IsPlan, Planned.ask_by, Passing.Passing, Passing.wants_of, Passing.IsKnown, Passing.IsTaskable, Passing.ask_words, Passing.task_words}
+use Rattle.fb_strict.specs.{Passing.task_link, Passing.link_behind, Passing.frame_link, Passing.IsLinked, Reread.WordsStand, Reread.MemberStands}
+use Rattle.fb_strict.proofs.{How.IsHeld, How.IsOfKind, How.how, Fields.asked_by, Fields.IsTask, Fields.task_is, Tasking.taskable_how}
 
 -- a vector of unions has as many types as uoffsets
 module _ (p : Passing) (b : List ℕ) (t : ℕ) (f : Live) (known : IsKnown p.checks b p.rows t f) (place : ℕ) (there : field_place b t f.slot ≡ Some place) where

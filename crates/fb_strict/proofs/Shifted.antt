@@ -1,8 +1,7 @@
 -- A pass after so many reads is one within what is left of the budget.
 use Rattle.std.proofs.Common.{◌≡◌, ℕ, ◌+◌, ◌-◌, ◌≤◌, nat_le, List, [], ◌∷◌, Option, Some, None, option_map, refl, ap, ◌∙◌, arith}
 use Rattle.std.proofs.lemmas.Bool.Decides.{nat_tests}
-use Rattle.fb_rules.specs.declared.{fault.Fault.Fault, fault.Reason.TheVariants.TooManyReads}
-use Rattle.fb_rules.specs.{Bounds.Bounds, Bounds.AreAllowed, Bounds.allowed, Stops.reads_failure}
+use Rattle.fb_rules.specs.{declared.fault.Fault.Fault, declared.fault.Reason.TheVariants.TooManyReads, Bounds.Bounds, Bounds.AreAllowed, Bounds.allowed, Stops.reads_failure}
 use Rattle.fb_rules.specs.Order.{Failure, check, ◌▷◌}
 use Rattle.fb_strict.specs.{Asked.Demand, Asked.demand_fault, Asked.first_fault, Nested.budget_left, Nested.limits_left, Nested.later}
 

@@ -2,20 +2,18 @@
 use Rattle.std.proofs.Common.{◌≡◌, ℕ, zero, suc, ◌+◌, ◌<◌, List, [], ◌∷◌, arith, inl, inr, Option, Some, None, false, subst, ap, ◌∙◌, sym}
 use Rattle.std.specs.Prelude.{slice_get, true, is_some}
 use Rattle.std.specs.List.{list_any}
-use Rattle.fb_schema.specs.declared.kinds.Kind.{Kind}
+use Rattle.fb_schema.specs.declared.kinds.Kind.{Kind, TheVariants.Scalar, TheVariants.Text, TheVariants.Struct, TheVariants.Table, TheVariants.Union, TheVariants.Scalars}
+use Rattle.fb_schema.specs.declared.kinds.Kind.TheVariants.{Texts, Structs, Tables, Unions}
+use Rattle.fb_schema.specs.{Rows.Rows, Live.Live, Live.live_fields, Members.member_of}
 use Rattle.std.proofs.lemmas.Bool.{cases_lt}
 use Rattle.fb_bytes.specs.Word.{word}
-use Rattle.fb_schema.specs.declared.kinds.Kind.TheVariants.{Scalar, Text, Struct, Table, Union, Scalars, Texts, Structs, Tables, Unions}
-use Rattle.fb_schema.specs.{Rows.Rows, Live.Live, Live.live_fields, Members.member_of}
-use Rattle.fb_rules.specs.declared.checks.Checks.{Checks}
-use Rattle.fb_rules.specs.Places.{target, field_place}
-use Rattle.fb_rules.specs.Fields.{type_place, union_type, Lead, lead_of, to_table, to_struct, to_string, to_nothing, Entry, row, union_row, union_entry, entries_of, entries_at, entries}
+use Rattle.fb_rules.specs.{declared.checks.Checks.Checks, Places.target, Places.field_place, Fields.type_place, Fields.union_type, Fields.Lead, Fields.lead_of, Fields.to_table}
+use Rattle.fb_rules.specs.Fields.{to_struct, to_string, to_nothing, Entry, row, union_row, union_entry, entries_of, entries_at, entries}
 use Rattle.fb_rules.specs.Tree.{Tree, node, Kids, no_kids, kid, Elements, no_elements, element, Element, leaf, table}
 use Rattle.fb_rules.specs.Unfolds.{Unfolds, FieldsUnfold, ElementsUnfold, ElementUnfolds}
 use Rattle.fb_strict.specs.Strict.{IsFlexless, IsStrict, KidsAreStrict, ElementsAreStrict, ElementIsStrict, IsStrictField, HasStrictUnions, AreUtf8}
-use Rattle.fb_strict.specs.Demanded.{held_of}
-use Rattle.fb_strict.specs.declared.tasks.Held.{Held}
-use Rattle.fb_strict.specs.Skipped.{Wants, is_member_asked, some_member, is_kind_asked, IsClosed, SkipLaw}
+use Rattle.fb_strict.specs.{Demanded.held_of, declared.tasks.Held.Held, Skipped.Wants, Skipped.is_member_asked, Skipped.some_member, Skipped.is_kind_asked, Skipped.IsClosed}
+use Rattle.fb_strict.specs.Skipped.{SkipLaw}
 use Rattle.fb_strict.proofs.{Lists.or_false, Members.no_such_member}
 
 module _ (w : Wants) (S : Rows) where

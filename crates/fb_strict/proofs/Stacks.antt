@@ -1,20 +1,17 @@
 -- A turn over the frames of the open tables.
 use Rattle.std.proofs.Common.{IsTrue, ◌≡◌, ℕ, zero, suc, ◌+◌, ◌-◌, ◌^◌, ◌<◌, ◌≤◌, List, [], ◌∷◌, ◌++◌, length, get_or, take, map, inl, inr, refl, sym, ap, subst, ◌∙◌, append_assoc, arith, Ok, Err}
-use Rattle.std.proofs.Math.ListN.{set, length-set}
-use Rattle.std.proofs.lemmas.{List.get_or-set_same, List.get_or-set_other, List.take-set-le, List.append-nil, Bool.cases_lt}
+use Rattle.std.proofs.{Math.ListN.set, Math.ListN.length-set, lemmas.List.get_or-set_same, lemmas.List.get_or-set_other, lemmas.List.take-set-le, lemmas.List.append-nil}
+use Rattle.std.proofs.lemmas.Bool.{cases_lt}
 use Rattle.fb_bytes.specs.Word.{Lent}
 use Rattle.fb_schema.specs.Rows.{is_table}
-use Rattle.fb_rules.specs.declared.{site.Stop.Stop, site.Halt.Halt, table.Child.Child, table.Head.Head, link.Link.Link}
-use Rattle.fb_rules.specs.declared.site.LastLink.{LastLink}
-use Rattle.fb_rules.specs.declared.site.LastLink.TheVariants.{Behind, InField}
-use Rattle.fb_rules.specs.{Tree.Tree, Tree.node, Tree.depth, Told.stopped, Told.IsHead, Facts.IsTable}
-use Rattle.fb_strict.specs.declared.{inner.Inner.Inner, room.Frame.Frame}
-use Rattle.fb_strict.specs.Asked.{Demand}
+use Rattle.fb_rules.specs.declared.{site.Stop.Stop, site.Halt.Halt, table.Child.Child, table.Head.Head, link.Link.Link, site.LastLink.LastLink, site.LastLink.TheVariants.Behind}
+use Rattle.fb_rules.specs.{declared.site.LastLink.TheVariants.InField, Tree.Tree, Tree.node, Tree.depth, Told.stopped, Told.IsHead, Facts.IsTable}
+use Rattle.fb_strict.specs.{declared.inner.Inner.Inner, declared.room.Frame.Frame, Asked.Demand, Passing.Passing, Passing.Opens, Passing.opening, Passing.IsPassing, Passing.opened}
+use Rattle.fb_strict.specs.Passing.{blank, frame_link, frame_links, IsLinked, AreLinked, IsLeft, AreLeft, Moves, Breaks, GoesOn, frame_work, frames_work, Stays, GoesDown, GoesIn}
+use Rattle.fb_strict.specs.Passing.{StopsHere, Halts, Turns, Enters, wants_of}
 use Rattle.fb_verify.specs.Stack.{own_link}
-use Rattle.fb_strict.specs.Passing.{Passing, Opens, opening, IsPassing, opened, blank, frame_link, frame_links, IsLinked, AreLinked, IsLeft, AreLeft, Moves, Breaks, GoesOn, frame_work, frames_work, Stays, GoesDown, GoesIn, StopsHere, Halts, Turns, Enters, wants_of}
-use Rattle.fb_strict.proofs.Lists.{one_more}
-use Rattle.fb_strict.proofs.Moving.{still, onward, before, breaks_before, breaks_then}
-use Rattle.fb_strict.proofs.{Frames.opened_left, Frames.head_first, Frames.next_table, Tasking.opened_few}
+use Rattle.fb_strict.proofs.{Lists.one_more, Moving.still, Moving.onward, Moving.before, Moving.breaks_before, Moving.breaks_then, Frames.opened_left, Frames.head_first}
+use Rattle.fb_strict.proofs.{Frames.next_table, Tasking.opened_few}
 
 module _ (p : Passing) (b : List ℕ) (frames : List Frame) (m : ℕ) (y : Frame) where
   same_frame : (n : ℕ) → n < m → get_or (set frames m y) n blank ≡ get_or frames n blank

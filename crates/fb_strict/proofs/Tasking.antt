@@ -1,34 +1,25 @@
 -- A frame of whose field no word is left: its next task, or its end.
 use Rattle.std.proofs.Common.{◌≡◌, ℕ, zero, suc, ◌+◌, ◌-◌, ◌^◌, ◌<◌, ◌≤◌, IsTrue, List, [], ◌∷◌, ◌++◌, length, drop, Option, Some, None, Bool, true, false, if◌then◌else◌, ◌*◌, ◌⊎◌, Ok, Err, inl, inr, refl, sym, ap, subst, ◌∙◌, arith}
-use Rattle.std.specs.{Prelude.slice_get, Borrow.Bor, Slice.IsItemAt}
+use Rattle.std.specs.{Prelude.slice_get, Borrow.Bor, Slice.IsItemAt, List.cons_option}
 use Rattle.std.proofs.lemmas.{Bool.cases_lt, Option.slice_get_within, Option.slice_get_past, Option.slice_get-get_or}
 use Rattle.fb_bytes.specs.Word.{Lent, word}
-use Rattle.fb_schema.specs.declared.kinds.Kind.{Kind}
-use Rattle.fb_schema.specs.declared.kinds.Kind.TheVariants.{Scalar, Text, Struct, Table, Union, Scalars, Texts, Structs, Tables, Unions}
-use Rattle.fb_schema.specs.{Rows.Rows, Rows.is_table, Rows.is_some_table, Live.Live, Live.live_fields}
-use Rattle.fb_rules.specs.declared.{checks.Checks.Checks, offset_row.Row.Row, site.Site.Site, site.Stop.Stop, site.Halt.Halt, site.LastLink.TheVariants.InField, table.Table.Table as TableOf, link.Link.Link}
-use Rattle.fb_rules.specs.Told.{stopped}
-use Rattle.fb_rules.specs.{Places.field_place, Places.target, Fields.type_place, Links.element_of, Links.type_of, Links.element_link, Links.field_link, Fields.entries}
+use Rattle.fb_schema.specs.declared.kinds.Kind.{Kind, TheVariants.Scalar, TheVariants.Text, TheVariants.Struct, TheVariants.Table, TheVariants.Union, TheVariants.Scalars}
+use Rattle.fb_schema.specs.declared.kinds.Kind.TheVariants.{Texts, Structs, Tables, Unions}
+use Rattle.fb_schema.specs.{Rows.Rows, Rows.is_table, Rows.is_some_table, Live.Live, Live.live_fields, declared.kinds.Scalar.TheVariants.UByte, Kinds.kind_size}
+use Rattle.fb_rules.specs.declared.{checks.Checks.Checks, offset_row.Row.Row, site.Site.Site, site.Stop.Stop, site.Halt.Halt, site.LastLink.TheVariants.InField}
+use Rattle.fb_rules.specs.{declared.table.Table.Table as TableOf, declared.link.Link.Link, Told.stopped, Places.field_place, Places.target, Fields.type_place, Links.element_of}
+use Rattle.fb_rules.specs.{Links.type_of, Links.element_link, Links.field_link, Fields.entries, Tree.Elements, Tree.no_elements, Tree.element, Unfolds.ElementsUnfold}
 use Rattle.fb_verify.specs.Stack.{link_to_number, own_link}
-use Rattle.fb_rules.specs.Tree.{Elements, no_elements, element}
-use Rattle.fb_rules.specs.Unfolds.{ElementsUnfold}
 use Rattle.fb_rules.proofs.{Typed.present, Words.row_none}
 use Rattle.fb_strict.specs.declared.{inner.Inner.Inner, room.Frame.Frame, tasks.Held.TheVariants.Buffer, tasks.Held.TheVariants.Flex, tasks.Ask.Ask, tasks.Task.Task}
-use Rattle.fb_strict.specs.declared.tasks.Ask.TheVariants.{Text as AskText, Texts as AskTexts, Union as AskUnion, Unions as AskUnions, Table as GoInto, Tables as GoIntoEach, Bytes as AskBytes}
-use Rattle.std.specs.List.{cons_option}
-use Rattle.fb_strict.specs.Skipped.{Wants, is_kind_asked}
-use Rattle.fb_strict.specs.Holding.{held_in}
-use Rattle.fb_strict.specs.Demanded.{held_by, held_of}
-use Rattle.fb_strict.specs.declared.tasks.Held.{Held}
-use Rattle.fb_schema.specs.declared.kinds.Scalar.TheVariants.{UByte}
-use Rattle.fb_schema.specs.Kinds.{kind_size}
-use Rattle.fb_strict.proofs.How.{IsHeld, IsOfKind, how}
-use Rattle.fb_strict.specs.Planned.{ask_by, asked_of, task_of, tasks_in, wants_in, Planned, IsPlan}
-use Rattle.fb_strict.specs.Asked.{Demand, row_leads, row_place, demands_in_fields, demands_in_row}
-use Rattle.fb_strict.specs.Passing.{Passing, IsPassing, BytesStand, IsAskedRow, IsTaskable, IsKnown, IsLeft, ask_words, task_words, ask_element, ask_member, task_link, task_row, frame_link, frame_work, opened, task_inner, IsTasked, IsInner, TaskDone, GoesOn, GoesIn, Stays, StopsHere, Breaks, wants_of}
-use Rattle.fb_strict.proofs.Moving.{met, unmet, told_there}
-use Rattle.fb_strict.proofs.Fields.{asked_by, IsNextField, next_field, no_field, task_demand, IsTask, task_is}
-use Rattle.fb_strict.proofs.Words.{IsPut, put_none, put, all_put}
+use Rattle.fb_strict.specs.declared.tasks.Ask.TheVariants.{Text as AskText, Texts as AskTexts, Union as AskUnion, Unions as AskUnions, Table as GoInto, Tables as GoIntoEach}
+use Rattle.fb_strict.specs.{declared.tasks.Ask.TheVariants.Bytes as AskBytes, Skipped.Wants, Skipped.is_kind_asked, Holding.held_in, Demanded.held_by, Demanded.held_of}
+use Rattle.fb_strict.specs.{declared.tasks.Held.Held, Planned.ask_by, Planned.asked_of, Planned.task_of, Planned.tasks_in, Planned.wants_in, Planned.Planned, Planned.IsPlan}
+use Rattle.fb_strict.specs.{Asked.Demand, Asked.row_leads, Asked.row_place, Asked.demands_in_fields, Asked.demands_in_row, Passing.Passing, Passing.IsPassing, Passing.BytesStand}
+use Rattle.fb_strict.specs.Passing.{IsAskedRow, IsTaskable, IsKnown, IsLeft, ask_words, task_words, ask_element, ask_member, task_link, task_row, frame_link, frame_work, opened}
+use Rattle.fb_strict.specs.Passing.{task_inner, IsTasked, IsInner, TaskDone, GoesOn, GoesIn, Stays, StopsHere, Breaks, wants_of}
+use Rattle.fb_strict.proofs.{How.IsHeld, How.IsOfKind, How.how, Moving.met, Moving.unmet, Moving.told_there, Fields.asked_by, Fields.IsNextField, Fields.next_field}
+use Rattle.fb_strict.proofs.{Fields.no_field, Fields.task_demand, Fields.IsTask, Fields.task_is, Words.IsPut, Words.put_none, Words.put, Words.all_put}
 
 drop_at : {X : Type 0} (xs : List X) (i j : ℕ) (x : X) → slice_get xs i ≡ Some x → j ≡ i + 1 → drop i xs ≡ x ∷ drop j xs
 drop_at [] i j x h e = absurd (cc)

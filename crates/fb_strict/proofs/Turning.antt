@@ -1,30 +1,24 @@
 -- Turns of a strict verdict with buffers inside.
-use Rattle.fb_rules.specs.{Tree.Tree, Tree.node, Tree.size, Tree.depth, Places.target, Links.StopsAlong, MostReads.most_reads}
-use Rattle.fb_rules.specs.WellFormed.{base, IsWellFormed, IsWithin, cost}
+use Rattle.fb_rules.specs.{Tree.Tree, Tree.node, Tree.size, Tree.depth, Places.target, Links.StopsAlong, MostReads.most_reads, WellFormed.base, WellFormed.IsWellFormed}
+use Rattle.fb_rules.specs.{WellFormed.IsWithin, WellFormed.cost, declared.fault.Report.Report, declared.link.Link.Link, Question.Question, Bounds.AreAllowed, Stops.reads_failure}
+use Rattle.fb_rules.specs.Order.{◌▷◌}
 use Rattle.fb_rules.proofs.Price.{cost_is_bounded}
 use Rattle.fb_schema.specs.{Live.widest, Served.IsServed}
 use Rattle.fb_schema.proofs.LookLemmas.{within_widest}
-use Rattle.fb_strict.specs.{InOrder.length_failure, InOrder.where_asked, Planned.Planned, Planned.wants_in}
-use Rattle.fb_strict.proofs.{Few.tree_few, Verdicts.first_few, Legs.allowed_later, Stacks.some_deep, Walking.short_bytes, Entering.same_bytes}
+use Rattle.fb_strict.specs.{InOrder.length_failure, InOrder.where_asked, Planned.Planned, Planned.wants_in, declared.inner.Inner.Inner, declared.room.Frame.Frame}
+use Rattle.fb_strict.specs.{declared.levels.Level.Level, declared.levels.Unmet.Unmet, declared.levels.Rest.TheVariants.Walked, Asked.Demand, Asked.demand_fault, Asked.demands_in}
+use Rattle.fb_strict.specs.{Asked.demands_reads, Passing.Passing, Passing.wants_of, Passing.blank, Passing.IsLeft, Passing.IsLinked, Passing.AreLinked, Passing.AreLeft}
+use Rattle.fb_strict.specs.{Passing.frame_link, Passing.frame_links, Nested.Refused, Nested.place_in, Nested.and_reads, Nested.and_walk, Nested.asked_of, Nested.bytes_inside}
+use Rattle.fb_strict.specs.{Nested.open_at, Nested.question_inside, Nested.walk_inside, Nested.IsEntered, Nested.IsWalked, Nested.EndsWith, Levels.LevelsComeTo, Levels.in_whole}
+use Rattle.fb_strict.specs.Levels.{Finished, Reached, Stopped, left_reads, IsUnderWay, IsAtInner, IsAsking, IsBegun, opened_inside, inside_of, IsWalkedIn, spent_inside}
+use Rattle.fb_strict.specs.Levels.{asked_inside, turns_left, level_inside, HasStopped, HasBroken, IsPassed, RestIs, IsWayTo, EndsAlong, fault_of, Opened, Whole, resting, bytes_of}
+use Rattle.fb_strict.specs.Levels.{way_through, IsThrough, IsOpened, opened_as, no_level, way_to, above_next, IsThroughBelow, AreOpened}
+use Rattle.fb_strict.proofs.{Few.tree_few, Verdicts.first_few, Legs.allowed_later, Stacks.some_deep, Walking.short_bytes, Entering.same_bytes, Moving.same_reads}
+use Rattle.fb_strict.proofs.{Moving.still_allowed, Few.first_reads, Opening.place_twice, Opening.level_moves, Opening.level_ends, Opening.level_breaks, Opening.level_stops}
+use Rattle.fb_strict.proofs.Opening.{level_opens}
 use Rattle.std.proofs.Common.{◌⊎◌, inl, inr, append_assoc, mul-le-mul_left, mul-le-mul_right}
-use Rattle.std.proofs.Math.Nat.{eq-or-lt_of_le}
-use Rattle.std.proofs.lemmas.List.{length-map}
+use Rattle.std.proofs.{Math.Nat.eq-or-lt_of_le, lemmas.List.length-map, lemmas.List.take-take, lemmas.List.drop-take, lemmas.List.get_or-take, lemmas.List.Sums.sum_by-cons}
 use Rattle.std.proofs.Common.{◌≡◌, ℕ, zero, suc, ◌+◌, ◌-◌, ◌*◌, ◌^◌, ◌<◌, ◌≤◌, List, [], ◌∷◌, ◌++◌, length, take, drop, map, get_or, Some, None, Result, Ok, Err, refl, sym, ap, subst, ◌∙◌, arith, length-take, length-drop}
-use Rattle.std.proofs.lemmas.List.{take-take, drop-take, get_or-take}
-use Rattle.fb_rules.specs.declared.{fault.Report.Report, link.Link.Link}
-use Rattle.fb_rules.specs.{Question.Question, Bounds.AreAllowed}
-use Rattle.fb_strict.specs.declared.{inner.Inner.Inner, room.Frame.Frame, levels.Level.Level, levels.Unmet.Unmet, levels.Rest.TheVariants.Walked}
-use Rattle.fb_strict.specs.Asked.{Demand, demand_fault, demands_in, demands_reads}
-use Rattle.fb_strict.specs.Passing.{Passing, wants_of, blank, IsLeft, IsLinked, AreLinked, AreLeft, frame_link, frame_links}
-use Rattle.std.proofs.lemmas.List.Sums.{sum_by-cons}
-use Rattle.fb_rules.specs.{Stops.reads_failure}
-use Rattle.fb_rules.specs.Order.{◌▷◌}
-use Rattle.fb_strict.specs.Nested.{Refused, place_in, and_reads, and_walk, asked_of, bytes_inside, open_at, question_inside, walk_inside, IsEntered, IsWalked, EndsWith}
-use Rattle.fb_strict.proofs.{Moving.same_reads, Moving.still_allowed, Few.first_reads}
-use Rattle.fb_strict.proofs.Opening.{place_twice, level_moves, level_ends, level_breaks, level_stops, level_opens}
-use Rattle.fb_strict.specs.Levels.{LevelsComeTo, in_whole, Finished, Reached, Stopped, left_reads, IsUnderWay, IsAtInner, IsAsking, IsBegun, opened_inside, inside_of, IsWalkedIn, spent_inside, asked_inside, turns_left}
-use Rattle.fb_strict.specs.Levels.{level_inside, HasStopped, HasBroken, IsPassed, RestIs, IsWayTo, EndsAlong, fault_of}
-use Rattle.fb_strict.specs.Levels.{Opened, Whole, resting, bytes_of, way_through, IsThrough, IsOpened, opened_as, no_level, way_to, above_next, IsThroughBelow, AreOpened}
 
 -- What is kept where only later frames and levels change.
 

@@ -1,11 +1,10 @@
 -- A field without a task is asked nothing.
 use Rattle.std.proofs.Common.{◌≡◌, None, option_map, Bool, true, false, refl, if◌then◌else◌}
-use Rattle.fb_schema.specs.declared.kinds.Kind.{Kind}
-use Rattle.fb_schema.specs.declared.kinds.Kind.TheVariants.{Scalar, Text, Struct, Table, Union, Scalars, Texts, Structs, Tables, Unions}
+use Rattle.fb_schema.specs.declared.kinds.Kind.{Kind, TheVariants.Scalar, TheVariants.Text, TheVariants.Struct, TheVariants.Table, TheVariants.Union, TheVariants.Scalars}
+use Rattle.fb_schema.specs.declared.kinds.Kind.TheVariants.{Texts, Structs, Tables, Unions}
 use Rattle.fb_schema.specs.{Rows.Rows, Live.Live}
-use Rattle.fb_strict.specs.{Skipped.Wants, Skipped.is_kind_asked, Planned.ask_by, Planned.task_with}
+use Rattle.fb_strict.specs.{Skipped.Wants, Skipped.is_kind_asked, Planned.ask_by, Planned.task_with, Asked.demands_in_fields, Asked.TasksLaw}
 use Rattle.fb_strict.proofs.How.{unheld}
-use Rattle.fb_strict.specs.Asked.{demands_in_fields, TasksLaw}
 
 -- each kind that is asked has an ask
 module _ (w : Wants) (S : Rows) (f : Live) where

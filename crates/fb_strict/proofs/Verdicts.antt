@@ -1,14 +1,11 @@
 -- Counts of a verdict that 128 bits hold.
 use Rattle.std.proofs.Common.{◌≡◌, ℕ, zero, suc, ◌+◌, Bool, true, false, if◌then◌else◌, take, ◌*◌, ◌^◌, ◌<◌, ◌≤◌, List, [], ◌∷◌, length, Option, Some, None, refl, ap, arith, mul-le-mul_left, mul-le-mul_right}
-use Rattle.fb_rules.specs.declared.{table.Child.Child}
-use Rattle.fb_rules.specs.{Question.Question, Tree.Tree, Tree.size}
-use Rattle.fb_rules.specs.WellFormed.{IsWellFormed, IsWithin, cost}
-use Rattle.fb_rules.specs.{MostReads.within_budget, MostReads.most_reads}
+use Rattle.fb_rules.specs.{declared.table.Child.Child, Question.Question, Tree.Tree, Tree.size, WellFormed.IsWellFormed, WellFormed.IsWithin, WellFormed.cost}
+use Rattle.fb_rules.specs.MostReads.{within_budget, most_reads}
 use Rattle.fb_schema.specs.{Live.widest, Served.IsServed}
-use Rattle.fb_rules.proofs.{Price.cost_is_bounded}
-use Rattle.fb_strict.specs.{InOrder.where_asked, InOrder.length_failure}
-use Rattle.fb_strict.specs.Asked.{Demand, demands_in, demands_of, demands_reads}
-use Rattle.fb_strict.specs.Passing.{Passing, wants_of, IsRooted}
+use Rattle.fb_rules.proofs.Price.{cost_is_bounded}
+use Rattle.fb_strict.specs.{InOrder.where_asked, InOrder.length_failure, Asked.Demand, Asked.demands_in, Asked.demands_of, Asked.demands_reads, Passing.Passing, Passing.wants_of}
+use Rattle.fb_strict.specs.Passing.{IsRooted}
 use Rattle.fb_strict.proofs.Few.{first_reads, tree_few}
 
 pub few_reads : (tables wide len : ℕ) → tables < 2 ^ 32 → wide < 2 ^ 32 → len < 2 ^ 31 → 4 + tables * (4 + wide * (8 + len)) ≤ 2 ^ 112

@@ -2,14 +2,11 @@
 use Rattle.std.proofs.Common.{◌≡◌, ◌⊎◌, ℕ, ◌+◌, ◌-◌, ◌*◌, ◌^◌, ◌<◌, ◌≤◌, min, List, ◌++◌, length, take, drop, inl, inr, sym, ap, subst, ◌∙◌, arith, length-take, length-drop, length-append}
 use Rattle.std.proofs.Math.Seq.{drop-append_seam}
 use Rattle.fb_schema.specs.{Rows.Rows, Live.widest}
-use Rattle.fb_rules.specs.declared.{fault.Fault.Fault, fault.Report.Report, link.Link.Link}
-use Rattle.fb_rules.specs.{Bounds.Bounds, Question.Question, MostReads.most_reads, Stops.Stops, Links.StopsAlong, Verdict.Reports}
-use Rattle.fb_strict.specs.declared.levels.Level.{Level}
-use Rattle.fb_strict.specs.Levels.{Whole, IsAsking, AreEnough, bytes_of, walk_at, WalkStops}
-use Rattle.fb_strict.specs.Nested.{later}
+use Rattle.fb_rules.specs.{declared.fault.Fault.Fault, declared.fault.Report.Report, declared.link.Link.Link, Bounds.Bounds, Question.Question, MostReads.most_reads, Stops.Stops}
+use Rattle.fb_rules.specs.{Links.StopsAlong, Verdict.Reports}
+use Rattle.fb_strict.specs.{declared.levels.Level.Level, Levels.Whole, Levels.IsAsking, Levels.AreEnough, Levels.bytes_of, Levels.walk_at, Levels.WalkStops, Nested.later}
 use Rattle.fb_schema.proofs.Numbers.{le_or_lt}
-use Rattle.fb_strict.proofs.Nesting.{along}
-use Rattle.fb_strict.proofs.Verdicts.{walk_few, few_reads, least_of}
+use Rattle.fb_strict.proofs.{Nesting.along, Verdicts.walk_few, Verdicts.few_reads, Verdicts.least_of}
 
 pub report_few : (q : Question) (b : List ℕ) (r : Report) → Reports q b r → (q.limits).tables < 2 ^ 32 → widest q.rows < 2 ^ 32 → length b < 2 ^ 31 → r.reads ≤ 2 ^ 112
 report_few q b r h t w l = let few = walk_few q b h.found h.well_formed h.within t w l in omega (arith, few, h.reads)

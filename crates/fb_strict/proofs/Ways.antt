@@ -1,13 +1,11 @@
 -- The way to what isn't met in a whole buffer is put, link by link.
 use Rattle.std.proofs.Common.{◌≡◌, ◌⊎◌, ℕ, zero, suc, ◌+◌, ◌<◌, ◌≤◌, List, ◌++◌, length, take, drop, get_or, inl, inr, Err, refl, sym, ap, subst, ◌∙◌, arith}
-use Rattle.std.proofs.Math.Nat.{eq-or-lt_of_le}
-use Rattle.std.proofs.Math.Seq.{take-append_seam, take-append-add, drop-append_seam, take-length}
+use Rattle.std.proofs.Math.{Nat.eq-or-lt_of_le, Seq.take-append_seam, Seq.take-append-add, Seq.drop-append_seam, Seq.take-length}
 use Rattle.fb_rules.specs.declared.{link.Link.Link, site.LastLink.LastLink}
 use Rattle.fb_verify.specs.Stack.{last_link, links_left}
 use Rattle.fb_strict.specs.declared.{room.Frame.Frame, levels.Level.Level, levels.Unmet.Unmet, levels.Missed.Missed, levels.Rest.TheVariants.Tables, levels.Rest.TheVariants.Walked}
-use Rattle.fb_strict.specs.Nested.{EndsWith}
-use Rattle.fb_strict.specs.Passing.{Passing, wants_of, AreLinked, frame_links}
-use Rattle.fb_strict.specs.Levels.{Whole, resting, bytes_of, no_level, links_of, HaveLinks, way_to, above_next, AreOpen, LeadsOn, IsPassed, RestIs, IsWayTo, EndsAlong, fault_of}
+use Rattle.fb_strict.specs.{Nested.EndsWith, Passing.Passing, Passing.wants_of, Passing.AreLinked, Passing.frame_links, Levels.Whole, Levels.resting, Levels.bytes_of}
+use Rattle.fb_strict.specs.Levels.{no_level, links_of, HaveLinks, way_to, above_next, AreOpen, LeadsOn, IsPassed, RestIs, IsWayTo, EndsAlong, fault_of}
 
 -- the first of a row that was put together
 joined : (xs ys : List Link) (n a : ℕ) → length xs ≡ a → take (a + n) (xs ++ ys) ≡ xs ++ take n ys

@@ -1,16 +1,14 @@
 -- A whole buffer is asked, with those inside it.
 use Rattle.std.proofs.Common.{◌≡◌, ℕ, ◌^◌, ◌<◌, ◌≤◌, List, [], ◌∷◌, length, get_or, set, inl, inr, Some, Result, Ok, Err, refl, sym, ap, subst, ◌∙◌, arith, get_or-set_same}
-use Rattle.fb_rules.specs.declared.{fault.Report.Report, link.Link.Link, table.Child.Child}
-use Rattle.fb_rules.specs.Order.{◌▷◌}
-use Rattle.fb_rules.specs.{Stops.reads_failure, Bounds.AreAllowed, Tree.Tree, Unfolds.Unfolds}
-use Rattle.fb_strict.specs.declared.{room.Frame.Frame, levels.Level.Level, levels.Unmet.Unmet}
-use Rattle.fb_strict.specs.Planned.{wants_in}
-use Rattle.fb_strict.specs.Asked.{Demand, demand_fault, demands_of, demands_reads}
-use Rattle.fb_strict.specs.Passing.{IsRooted, Moves, Breaks}
-use Rattle.fb_strict.specs.Nested.{Refused, Course, ComeTo, place_in, and_reads, asked_of, EndsWith}
-use Rattle.fb_strict.specs.Levels.{Opened, Whole, IsAsking, IsWalkedWhole, resting, bytes_of, asked_from, in_whole, LevelsComeTo, IsOpened, opened_as, no_level, way_to, above_next, IsThroughBelow, AreOpened, IsBegun, Stopped, IsUnderWay, EndsAlong, fault_of}
-use Rattle.fb_strict.proofs.{Verdicts.take_all, Verdicts.walk_few, Verdicts.pass_few, Turning.price_few, Turning.first_left, Turning.rest_is, Moving.same_reads, Moving.still_allowed, Stacks.some_deep}
-use Rattle.fb_strict.proofs.Opening.{level_moves, level_breaks}
+use Rattle.fb_rules.specs.{declared.fault.Report.Report, declared.link.Link.Link, declared.table.Child.Child, Order.◌▷◌, Stops.reads_failure, Bounds.AreAllowed, Tree.Tree}
+use Rattle.fb_rules.specs.Unfolds.{Unfolds}
+use Rattle.fb_strict.specs.{declared.room.Frame.Frame, declared.levels.Level.Level, declared.levels.Unmet.Unmet, Planned.wants_in, Asked.Demand, Asked.demand_fault}
+use Rattle.fb_strict.specs.{Asked.demands_of, Asked.demands_reads, Passing.IsRooted, Passing.Moves, Passing.Breaks, Nested.Refused, Nested.Course, Nested.ComeTo, Nested.place_in}
+use Rattle.fb_strict.specs.{Nested.and_reads, Nested.asked_of, Nested.EndsWith, Levels.Opened, Levels.Whole, Levels.IsAsking, Levels.IsWalkedWhole, Levels.resting, Levels.bytes_of}
+use Rattle.fb_strict.specs.Levels.{asked_from, in_whole, LevelsComeTo, IsOpened, opened_as, no_level, way_to, above_next, IsThroughBelow, AreOpened, IsBegun, Stopped, IsUnderWay}
+use Rattle.fb_strict.specs.Levels.{EndsAlong, fault_of}
+use Rattle.fb_strict.proofs.{Verdicts.take_all, Verdicts.walk_few, Verdicts.pass_few, Turning.price_few, Turning.first_left, Turning.rest_is, Moving.same_reads}
+use Rattle.fb_strict.proofs.{Moving.still_allowed, Stacks.some_deep, Opening.level_moves, Opening.level_breaks}
 
 module _ (w : Whole) (asking : IsAsking w) (spent : Report) (root : Child) (y : Tree) (h : IsWalkedWhole w spent root y) (size : ℕ) (all : size ≡ length w.bytes) where
   abbrev pub whole-level : Level

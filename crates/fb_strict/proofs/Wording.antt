@@ -1,15 +1,13 @@
 -- The first uoffset that is left of a frame is passed.
 use Rattle.std.proofs.Common.{◌≡◌, ◌⊎◌, inl, inr, ℕ, ◌+◌, ◌^◌, ◌<◌, ◌≤◌, List, [], ◌∷◌, ◌++◌, length, Some, None, Result, Ok, Err, refl, sym, ap, subst, ◌∙◌, arith}
 use Rattle.fb_bytes.specs.Word.{Lent}
-use Rattle.fb_rules.specs.declared.{site.Site.Site, site.Stop.Stop, site.Halt.Halt, site.LastLink.TheVariants.Behind, table.Child.Child, link.Link.Link}
-use Rattle.fb_rules.specs.declared.{offset_row.Leads.Leads, offset_row.Leads.TheVariants.All, offset_row.Leads.TheVariants.ByType}
-use Rattle.fb_rules.specs.{Places.target, Told.told, Told.stopped, Told.IsAskedAt, Stops.reads_failure, Bounds.AreAllowed, OffsetRows.past_first}
-use Rattle.fb_strict.specs.declared.room.Frame.{Frame}
-use Rattle.fb_rules.specs.declared.offset_row.Referent.{Referent}
+use Rattle.fb_rules.specs.declared.{site.Site.Site, site.Stop.Stop, site.Halt.Halt, site.LastLink.TheVariants.Behind, table.Child.Child, link.Link.Link, offset_row.Leads.Leads}
+use Rattle.fb_rules.specs.{declared.offset_row.Leads.TheVariants.All, declared.offset_row.Leads.TheVariants.ByType, Places.target, Told.told, Told.stopped, Told.IsAskedAt}
+use Rattle.fb_rules.specs.{Stops.reads_failure, Bounds.AreAllowed, OffsetRows.past_first, declared.offset_row.Referent.Referent}
 use Rattle.fb_rules.specs.declared.offset_row.Referent.TheVariants.{Text as AText, Table as ATable}
-use Rattle.fb_strict.specs.InOrder.{where_asked, element_failure, element_reads, text_failure, text_reads}
-use Rattle.fb_strict.specs.Asked.{Demand, reading, first_referent, element_demands, demands_in}
-use Rattle.fb_strict.specs.Passing.{Passing, wants_of, IsPassing, TextStands, TextPassed, Moves, frame_link, IsLinked, IsLeft, Breaks, GoesOn, FirstPassed, Stays, GoesDown, StopsHere, frame_work}
+use Rattle.fb_strict.specs.{declared.room.Frame.Frame, InOrder.where_asked, InOrder.element_failure, InOrder.element_reads, InOrder.text_failure, InOrder.text_reads, Asked.Demand}
+use Rattle.fb_strict.specs.{Asked.reading, Asked.first_referent, Asked.element_demands, Asked.demands_in, Passing.Passing, Passing.wants_of, Passing.IsPassing, Passing.TextStands}
+use Rattle.fb_strict.specs.Passing.{TextPassed, Moves, frame_link, IsLinked, IsLeft, Breaks, GoesOn, FirstPassed, Stays, GoesDown, StopsHere, frame_work}
 use Rattle.fb_strict.proofs.Moving.{still, one, onward, breaks, breaks_then, told_is as told_is_fault, ends_at, met, unmet}
 use Rattle.fb_strict.proofs.{Few.element_few, Frames.asked_first, Frames.under, Frames.beside, Frames.IsText, Frames.to_text, Frames.word_link, Frames.word_linked, Frames.through}
 

@@ -1,25 +1,22 @@
 -- What is left of the uoffsets of a field.
 use Rattle.std.proofs.Common.{◌≡◌, inl, inr, ℕ, ◌+◌, ◌*◌, ◌<◌, ◌≤◌, IsTrue, List, [], ◌∷◌, length, Option, Some, None, true, false, refl, ap, subst, ◌∙◌, arith}
 use Rattle.fb_bytes.specs.Word.{word}
-use Rattle.fb_schema.specs.declared.kinds.Kind.{Kind}
-use Rattle.fb_schema.specs.declared.kinds.Kind.TheVariants.{Scalar, Text, Struct, Table, Union, Scalars, Texts, Structs, Tables, Unions}
-use Rattle.fb_schema.specs.{Rows.is_table, Rows.is_union, Live.Live, Members.member_of, Served.MemberHolds}
+use Rattle.fb_schema.specs.declared.kinds.Kind.{Kind, TheVariants.Scalar, TheVariants.Text, TheVariants.Struct, TheVariants.Table, TheVariants.Union, TheVariants.Scalars}
+use Rattle.fb_schema.specs.declared.kinds.Kind.TheVariants.{Texts, Structs, Tables, Unions}
+use Rattle.fb_schema.specs.{Rows.is_table, Rows.is_union, Live.Live, Members.member_of, Served.MemberHolds, declared.kinds.Scalar.TheVariants.UByte}
 use Rattle.fb_rules.specs.declared.{offset_row.Row.Row, offset_row.Leads.Leads, offset_row.Leads.TheVariants.All, offset_row.Referent.Referent, link.Link.Link}
 use Rattle.fb_rules.specs.declared.offset_row.Referent.TheVariants.{Text as AText, Table as ATable, Struct as AStruct, Nothing}
-use Rattle.fb_rules.specs.{Places.target, Places.field_place, OffsetRows.words_of, OffsetRows.TypesFit}
-use Rattle.fb_rules.specs.Fields.{Lead, to_table, to_struct, to_string, to_nothing, lead_of, row, union_row, union_entry, entries_of, entries_at, entries, type_place, types_begin, type_count, union_type}
-use Rattle.fb_rules.specs.Tree.{node, Elements, no_elements, element, leaf, table, elements_depth}
-use Rattle.fb_rules.specs.Unfolds.{Unfolds, ElementsUnfold, ElementUnfolds}
+use Rattle.fb_rules.specs.{Places.target, Places.field_place, OffsetRows.words_of, OffsetRows.TypesFit, Fields.Lead, Fields.to_table, Fields.to_struct, Fields.to_string}
+use Rattle.fb_rules.specs.Fields.{to_nothing, lead_of, row, union_row, union_entry, entries_of, entries_at, entries, type_place, types_begin, type_count, union_type}
+use Rattle.fb_rules.specs.{Tree.node, Tree.Elements, Tree.no_elements, Tree.element, Tree.leaf, Tree.table, Tree.elements_depth, Unfolds.Unfolds, Unfolds.ElementsUnfold}
+use Rattle.fb_rules.specs.Unfolds.{ElementUnfolds}
 use Rattle.fb_rules.proofs.{Typed.present, Words.row_none}
-use Rattle.fb_schema.specs.declared.kinds.Scalar.TheVariants.{UByte}
-use Rattle.fb_strict.specs.declared.tasks.Held.{Held}
-use Rattle.fb_strict.proofs.Fields.{no_entries}
-use Rattle.fb_strict.proofs.Referents.{IsAnswered, answered_member, member_table}
-use Rattle.fb_strict.specs.declared.tasks.Ask.{Ask}
-use Rattle.fb_strict.specs.declared.tasks.Ask.TheVariants.{Text as AskText, Texts as AskTexts, Union as AskUnion, Unions as AskUnions, Table as GoInto, Tables as GoIntoEach, Bytes as AskBytes}
-use Rattle.fb_strict.specs.{Planned.ask_by, Skipped.is_kind_asked, InOrder.member_at}
-use Rattle.fb_strict.specs.Asked.{asked_referent, row_leads, row_place, demands_in_row, demands_below}
-use Rattle.fb_strict.specs.Passing.{Passing, wants_of, IsPassing, word_row, task_row, ask_words, IsAskedRow, IsKnown}
+use Rattle.fb_strict.specs.declared.tasks.{Held.Held, Ask.Ask, Ask.TheVariants.Text as AskText, Ask.TheVariants.Texts as AskTexts, Ask.TheVariants.Union as AskUnion}
+use Rattle.fb_strict.specs.declared.tasks.Ask.TheVariants.{Unions as AskUnions, Table as GoInto, Tables as GoIntoEach, Bytes as AskBytes}
+use Rattle.fb_strict.specs.{Planned.ask_by, Skipped.is_kind_asked, InOrder.member_at, Asked.asked_referent, Asked.row_leads, Asked.row_place, Asked.demands_in_row}
+use Rattle.fb_strict.specs.{Asked.demands_below, Passing.Passing, Passing.wants_of, Passing.IsPassing, Passing.word_row, Passing.task_row, Passing.ask_words, Passing.IsAskedRow}
+use Rattle.fb_strict.specs.Passing.{IsKnown}
+use Rattle.fb_strict.proofs.{Fields.no_entries, Referents.IsAnswered, Referents.answered_member, Referents.member_table}
 
 module _ (p : Passing) (b : List ℕ) (holds : IsPassing p b) where
   -- the words of a field were put into a row: they stand for the same demands as those that the field has

@@ -1,9 +1,8 @@
 -- What a verdict says where a plan is given, and where none is.
 use Rattle.std.specs.Prelude.{ℕ, List, Option, Some, None}
-use Rattle.fb_rules.specs.declared.{fault.Fault.Fault, fault.Report.Report, link.Link.Link}
-use Rattle.fb_rules.specs.{Question.Question, Verdict.Reports, Verdict.HasNone, Stops.Stops, Links.StopsAlong}
-use Rattle.fb_strict.specs.Planned.{Planned}
-use Rattle.fb_strict.specs.Strictly.{ReportsStrictly, HasNoneStrictly, StopsStrictly, StopsAlongStrictly}
+use Rattle.fb_rules.specs.{declared.fault.Fault.Fault, declared.fault.Report.Report, declared.link.Link.Link, Question.Question, Verdict.Reports, Verdict.HasNone, Stops.Stops}
+use Rattle.fb_rules.specs.Links.{StopsAlong}
+use Rattle.fb_strict.specs.{Planned.Planned, Strictly.ReportsStrictly, Strictly.HasNoneStrictly, Strictly.StopsStrictly, Strictly.StopsAlongStrictly}
 
 -- a yes: a tree is well formed and within the limits, by a plan also strict, and the report counts it
 abbrev pub ReportsBy : Option Planned → Question → List ℕ → Report → Type 0

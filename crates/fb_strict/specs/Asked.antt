@@ -1,23 +1,18 @@
 -- All that is asked of a tree, one thing after another in the order of the walk's visits.
 use Rattle.std.specs.Prelude.{◌≡◌, ◌↔◌, ℕ, zero, suc, ◌+◌, if◌then◌else◌, List, [], ◌∷◌, ◌++◌, length, Option, Some, None}
 use Rattle.std.specs.List.{sum_by}
-use Rattle.fb_schema.specs.declared.kinds.Kind.{Kind}
-use Rattle.fb_schema.specs.declared.kinds.Kind.TheVariants.{Text, Table, Union, Texts, Tables, Unions}
-use Rattle.fb_rules.specs.declared.{offset_row.Leads.Leads, offset_row.Leads.TheVariants.All, offset_row.Leads.TheVariants.ByType, offset_row.Referent.Referent}
-use Rattle.fb_rules.specs.declared.offset_row.Referent.TheVariants.{Text as AText, Table as ATable, Nothing}
+use Rattle.fb_schema.specs.declared.kinds.Kind.{Kind, TheVariants.Text, TheVariants.Table, TheVariants.Union, TheVariants.Texts, TheVariants.Tables, TheVariants.Unions}
 use Rattle.fb_schema.specs.{Rows.Rows, Live.Live, Live.live_fields, Members.member_of}
+use Rattle.fb_rules.specs.declared.offset_row.{Leads.Leads, Leads.TheVariants.All, Leads.TheVariants.ByType, Referent.Referent, Referent.TheVariants.Text as AText}
+use Rattle.fb_rules.specs.declared.{offset_row.Referent.TheVariants.Table as ATable, offset_row.Referent.TheVariants.Nothing, checks.Checks.Checks, fault.Fault.Fault}
+use Rattle.fb_rules.specs.{declared.link.Link.Link, Bounds.Bounds, Bounds.AreAllowed, Places.target, Places.field_place, Places.vtable, Fields.type_place, Fields.types_begin}
+use Rattle.fb_rules.specs.{Fields.union_type, OffsetRows.leads_after, Unfolds.Unfolds, Links.field_link, Links.element_link, Cost.head_reads, Cost.slot_reads}
+use Rattle.fb_rules.specs.{Cost.reads_if_present, Order.Failure, Order.after, Order.◌▷◌, Stops.reads_failure, Tree.Tree, Tree.node, Tree.Kids, Tree.no_kids, Tree.kid}
+use Rattle.fb_rules.specs.Tree.{Elements, no_elements, element, Element, leaf, table}
 use Rattle.fb_bytes.specs.Word.{word}
-use Rattle.fb_rules.specs.declared.{checks.Checks.Checks, fault.Fault.Fault, link.Link.Link}
-use Rattle.fb_rules.specs.{Bounds.Bounds, Bounds.AreAllowed, Places.target, Places.field_place, Places.vtable}
-use Rattle.fb_rules.specs.{Fields.type_place, Fields.types_begin, Fields.union_type, OffsetRows.leads_after, Unfolds.Unfolds}
-use Rattle.fb_rules.specs.{Links.field_link, Links.element_link}
-use Rattle.fb_rules.specs.{Cost.head_reads, Cost.slot_reads, Cost.reads_if_present, Order.Failure, Order.after, Order.◌▷◌, Stops.reads_failure}
-use Rattle.fb_rules.specs.Tree.{Tree, node, Kids, no_kids, kid, Elements, no_elements, element, Element, leaf, table}
-use Rattle.fb_strict.specs.declared.inner.Inner.{Inner}
-use Rattle.fb_strict.specs.{Strict.slot_count, Strict.IsStrictBuffer, Skipped.Wants, Skipped.is_kind_asked, Skipped.IsClosed, Planned.task_of}
-use Rattle.fb_strict.specs.InOrder.{where_asked, bytes_failure, bytes_reads, bytes_inner, length_failure, places_reads, union_failure}
-use Rattle.fb_strict.specs.InOrder.{union_reads, together_failure, element_failure, element_reads, text_failure, text_reads, slot_failure}
-use Rattle.fb_strict.specs.Demanded.{Demanded, held_of}
+use Rattle.fb_strict.specs.{declared.inner.Inner.Inner, Strict.slot_count, Strict.IsStrictBuffer, Skipped.Wants, Skipped.is_kind_asked, Skipped.IsClosed, Planned.task_of}
+use Rattle.fb_strict.specs.InOrder.{where_asked, bytes_failure, bytes_reads, bytes_inner, length_failure, places_reads, union_failure, union_reads, together_failure}
+use Rattle.fb_strict.specs.{InOrder.element_failure, InOrder.element_reads, InOrder.text_failure, InOrder.text_reads, InOrder.slot_failure, Demanded.Demanded, Demanded.held_of}
 use Rattle.fb_strict.specs.declared.tasks.Held.{Held}
 
 -- one thing that is asked at a table of this object, at the field with this number or at its head: a chain of tests,

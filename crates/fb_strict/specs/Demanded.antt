@@ -1,9 +1,7 @@
 -- What is demanded of buffers, and what the bytes of fields hold.
 use Rattle.std.specs.Prelude.{ℕ, Bool, List, Option, None}
-use Rattle.fb_schema.specs.declared.kinds.{Kind.Kind, Kind.TheVariants.Scalars, Scalar.TheVariants.UByte}
-use Rattle.fb_schema.specs.Live.{Live}
-use Rattle.fb_strict.specs.declared.{demands.Demands.Demands, tasks.Held.Held, holding.Holding.Holding}
-use Rattle.fb_strict.specs.Holding.{held_in}
+use Rattle.fb_schema.specs.{declared.kinds.Kind.Kind, declared.kinds.Kind.TheVariants.Scalars, declared.kinds.Scalar.TheVariants.UByte, Live.Live}
+use Rattle.fb_strict.specs.{declared.demands.Demands.Demands, declared.tasks.Held.Held, declared.holding.Holding.Holding, Holding.held_in}
 
 -- which demands there are, and which fields hold something
 pub record Demanded : Type 0 where

@@ -1,17 +1,15 @@
 -- Examples of what is demanded: bytes that meet it or don't, most of them beside those around.
 use Rattle.std.specs.Prelude.{◌≡◌, ℕ, Bool, true, false, List, [], ◌∷◌, ◌++◌, map, Option, Some, None}
 use Rattle.fb_rules.specs.declared.fault.Reason.TheVariants.{OutOfBuffer, Misaligned, ZeroOffset, MissingRequired, LengthsDiffer, NotUtf8, UnknownField, TooManyReads}
-use Rattle.fb_rules.specs.declared.{fault.Fault.Fault, link.Link.Link}
-use Rattle.fb_rules.specs.Tree.{Tree, node, no_kids, kid, no_elements, element, leaf, table as table_below}
+use Rattle.fb_rules.specs.{declared.fault.Fault.Fault, declared.link.Link.Link, Tree.Tree, Tree.node, Tree.no_kids, Tree.kid, Tree.no_elements, Tree.element, Tree.leaf}
+use Rattle.fb_rules.specs.{Tree.table as table_below, Samples.fault, Samples.published_checks, Samples.unions, Samples.table, Samples.field, Samples.object, Samples.vector}
+use Rattle.fb_rules.specs.{Tests.found, Order.Failure}
 use Rattle.fb_schema.specs.{Rows.Rows, Live.live_fields}
-use Rattle.fb_rules.specs.{Samples.fault, Samples.published_checks, Samples.unions, Samples.table, Samples.field, Samples.object, Samples.vector, Tests.found}
-use Rattle.fb_rules.specs.Order.{Failure}
-use Rattle.fb_strict.specs.Demanded.{Demanded, demanded, held_of}
-use Rattle.fb_strict.specs.declared.{inner.Inner.Inner, tasks.Ask.Ask, tasks.Task.Task, tasks.Held.TheVariants.Buffer, tasks.Held.TheVariants.Flex}
-use Rattle.fb_strict.specs.{Nested.bytes_inside, Readers.buffer_at}
+use Rattle.fb_strict.specs.{Demanded.Demanded, Demanded.demanded, Demanded.held_of, declared.inner.Inner.Inner, declared.tasks.Ask.Ask, declared.tasks.Task.Task}
+use Rattle.fb_strict.specs.{declared.tasks.Held.TheVariants.Buffer, declared.tasks.Held.TheVariants.Flex, Nested.bytes_inside, Readers.buffer_at}
 use Rattle.fb_strict.specs.declared.tasks.Ask.TheVariants.{Union as AskUnion, Unions as AskUnions, Table as GoInto, Tables as GoIntoEach}
-use Rattle.fb_strict.specs.{Skipped.Wants, Skipped.reaches_demand, Planned.tasks_in, Asked.Demand, Asked.demands_of, Asked.first_fault, Asked.first_links}
-use Rattle.fb_strict.specs.InOrder.{length_failure, text_failure, slot_failure, inside_failure, union_failure, together_failure, element_failure}
+use Rattle.fb_strict.specs.{Skipped.Wants, Skipped.reaches_demand, Planned.tasks_in, Asked.Demand, Asked.demands_of, Asked.first_fault, Asked.first_links, InOrder.length_failure}
+use Rattle.fb_strict.specs.InOrder.{text_failure, slot_failure, inside_failure, union_failure, together_failure, element_failure}
 
 -- the union of a table at 4, whose type and value stand at these places of such bytes: 1 is its member, 9 is none
 abbrev pub union_in : List ℕ → (types place : Option ℕ) → Option Failure

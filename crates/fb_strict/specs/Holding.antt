@@ -1,16 +1,12 @@
 -- What the bytes of fields hold, by the marks of a schema file.
 use Rattle.std.specs.Prelude.{◌≡◌, ℕ, zero, suc, ◌<◌, ◌==◌, ◌&&◌, ◌||◌, nat_lt, map, Bool, true, if◌then◌else◌, List, [], ◌++◌}
 use Rattle.std.specs.Prelude.{length, take, find, filter_map, slice_get, slice_index_or, Option, Some, None, option_map, is_none}
-use Rattle.std.specs.List.{list_any}
-use Rattle.std.specs.Ordering.{nat_cmp}
-use Rattle.std.specs.declared.cmp.Ordering.{Ordering}
-use Rattle.fb_schema.specs.Sorting.{IsOrderOf, entry_cmp}
-use Rattle.fb_schema.specs.{Rows.Object, Rows.Rows, Rows.table_named, Live.live_fields}
+use Rattle.std.specs.{List.list_any, Ordering.nat_cmp, declared.cmp.Ordering.Ordering}
+use Rattle.fb_schema.specs.{Sorting.IsOrderOf, Sorting.entry_cmp, Rows.Object, Rows.Rows, Rows.table_named, Live.live_fields}
 use Rattle.fb_rules.specs.Order.{◌▷◌}
 use Rattle.fb_bfbs.specs.{ByteFields.is_at, Marks.Marked, Marks.Held as HeldBy, Marks.buffer, Marks.flex}
-use Rattle.fb_strict.specs.declared.{demands.Demands.Demands, tasks.Held.Held, holding.Holding.Holding, holding.PlanFault.PlanFault}
-use Rattle.fb_strict.specs.declared.{holding.PlanFault.TheVariants.OutOfMemory, holding.PlanFault.TheVariants.NoSuchTable}
-use Rattle.fb_strict.specs.declared.tasks.Held.TheVariants.{Buffer, Flex}
+use Rattle.fb_strict.specs.declared.{demands.Demands.Demands, tasks.Held.Held, holding.Holding.Holding, holding.PlanFault.PlanFault, holding.PlanFault.TheVariants.OutOfMemory}
+use Rattle.fb_strict.specs.declared.{holding.PlanFault.TheVariants.NoSuchTable, tasks.Held.TheVariants.Buffer, tasks.Held.TheVariants.Flex}
 
 -- Names.
 

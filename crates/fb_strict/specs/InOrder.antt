@@ -1,16 +1,14 @@
 -- The demands in their order: each chain answers the first that isn't met, after the reads that were made by then.
 use Rattle.std.specs.Prelude.{◌≡◌, ◌↔◌, ℕ, ◌+◌, ◌-◌, ◌*◌, ◌<◌, ◌≤◌, ◌≢◌, ◌==◌, ◌||◌, nat_le, Bool, true, false, if◌then◌else◌, List, length, Option, Some, None}
 use Rattle.fb_bytes.specs.Word.{word}
-use Rattle.fb_schema.specs.declared.kinds.Kind.{Kind}
-use Rattle.std.specs.List.{list_any}
-use Rattle.fb_schema.specs.{Rows.Rows, Live.Live, Live.live_fields, Members.member_of}
-use Rattle.fb_rules.specs.declared.checks.Checks.{Checks}
-use Rattle.fb_rules.specs.declared.fault.Reason.TheVariants.{OutOfBuffer, MissingRequired, LengthsDiffer, FlexContent, NotUtf8, UnknownField}
-use Rattle.fb_rules.specs.{Places.fits, Places.target, Cost.slot_reads, Cost.reads_if_present, Fields.union_type, Fields.types_begin}
-use Rattle.fb_rules.specs.Order.{Failure, check, after, ◌▷◌, offset_failure}
-use Rattle.std.specs.{Str.is_utf8, Str.Lossy.utf8_valid_len}
-use Rattle.fb_strict.specs.declared.{inner.Inner.Inner, tasks.Held.Held, tasks.Held.TheVariants.Buffer, tasks.Held.TheVariants.Flex}
-use Rattle.fb_strict.specs.Strict.{text_at, IsUtf8At, IsLiveSlot, LeadsInside, IsStrictUnion, IsStrictElement, IsStrictUnions}
+use Rattle.fb_schema.specs.{declared.kinds.Kind.Kind, Rows.Rows, Live.Live, Live.live_fields, Members.member_of}
+use Rattle.std.specs.{List.list_any, Str.is_utf8, Str.Lossy.utf8_valid_len}
+use Rattle.fb_rules.specs.declared.{checks.Checks.Checks, fault.Reason.TheVariants.OutOfBuffer, fault.Reason.TheVariants.MissingRequired, fault.Reason.TheVariants.LengthsDiffer}
+use Rattle.fb_rules.specs.{declared.fault.Reason.TheVariants.FlexContent, declared.fault.Reason.TheVariants.NotUtf8, declared.fault.Reason.TheVariants.UnknownField, Places.fits}
+use Rattle.fb_rules.specs.{Places.target, Cost.slot_reads, Cost.reads_if_present, Fields.union_type, Fields.types_begin, Order.Failure, Order.check, Order.after, Order.◌▷◌}
+use Rattle.fb_rules.specs.Order.{offset_failure}
+use Rattle.fb_strict.specs.{declared.inner.Inner.Inner, declared.tasks.Held.Held, declared.tasks.Held.TheVariants.Buffer, declared.tasks.Held.TheVariants.Flex, Strict.text_at}
+use Rattle.fb_strict.specs.Strict.{IsUtf8At, IsLiveSlot, LeadsInside, IsStrictUnion, IsStrictElement, IsStrictUnions}
 
 -- a chain, where it is asked
 abbrev pub where_asked : Bool → Option Failure → Option Failure

@@ -1,10 +1,8 @@
 -- The laws of strict verdicts.
 use Rattle.std.specs.Prelude.{◌≡◌, ℕ, ◌≤◌, true, List, length, Result, Ok, Err}
-use Rattle.fb_rules.specs.declared.{fault.Fault.Fault, fault.Report.Report}
-use Rattle.fb_rules.specs.{Question.Question, Places.target, Tree.Tree, Unfolds.Unfolds, WellFormed.base, Verdict.Reports}
-use Rattle.fb_strict.specs.{Planned.Planned, Planned.IsPlan, MostReads.most_reads_strictly, Readers.ValuesLeadInside}
-use Rattle.fb_strict.specs.{Readers.ElementsLeadInside, Readers.TextsAreUtf8, Readers.HasNoUnknownFields, Readers.HeldAreGood, Readers.HasNoFlexbuffers}
-use Rattle.fb_strict.specs.Strictly.{ReportsStrictly, StopsStrictly}
+use Rattle.fb_rules.specs.{declared.fault.Fault.Fault, declared.fault.Report.Report, Question.Question, Places.target, Tree.Tree, Unfolds.Unfolds, WellFormed.base, Verdict.Reports}
+use Rattle.fb_strict.specs.{Planned.Planned, Planned.IsPlan, MostReads.most_reads_strictly, Readers.ValuesLeadInside, Readers.ElementsLeadInside, Readers.TextsAreUtf8}
+use Rattle.fb_strict.specs.{Readers.HasNoUnknownFields, Readers.HeldAreGood, Readers.HasNoFlexbuffers, Strictly.ReportsStrictly, Strictly.StopsStrictly}
 
 -- the walk alone reports no more tables, depth and reads: those of buffers inside count with it
 pub record IsOk (q : Question) (b : List ℕ) (r : Report) : Type 0 where

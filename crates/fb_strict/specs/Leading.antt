@@ -1,7 +1,6 @@
 -- Which tables lead to an object, as chains have it that are followed backwards from the object.
 use Rattle.std.specs.Prelude.{◌≡◌, ◌⊎◌, ◌+◌, ◌^◌, ◌<◌, ◌≤◌, ℕ, List, [], ◌∷◌, length, slice_get, slice_index_or, Some, false, IsTrue}
-use Rattle.fb_schema.specs.declared.kinds.Kind.{Kind}
-use Rattle.fb_schema.specs.declared.kinds.Kind.TheVariants.{Table, Union, Tables, Unions}
+use Rattle.fb_schema.specs.declared.kinds.Kind.{Kind, TheVariants.Table, TheVariants.Union, TheVariants.Tables, TheVariants.Unions}
 use Rattle.fb_schema.specs.{Rows.Rows, Rows.is_union, Live.Live, Live.live_fields, Members.member_of}
 use Rattle.fb_strict.specs.declared.{demands.Demands.Demands, leads.Edge.Edge, leads.Ends.Ends, leads.Ends.TheVariants.Objects, leads.Ends.TheVariants.Enums}
 

@@ -1,23 +1,17 @@
 -- The buffers that are open while a buffer is asked with those inside it, from the innermost out.
 use Rattle.std.specs.Prelude.{◌≡◌, ℕ, zero, suc, ◌+◌, ◌-◌, ◌*◌, ◌^◌, ◌<◌, ◌≤◌, ◌⊎◌, max, min, List, [], ◌∷◌, ◌++◌, length, take, drop, get_or, IsTrue, Option, Some, None, Result, Ok, Err}
 use Rattle.fb_bytes.specs.Word.{Lent}
-use Rattle.fb_schema.specs.Served.{IsServed}
-use Rattle.fb_rules.specs.declared.{fault.Fault.Fault, fault.Report.Report, link.Link.Link}
-use Rattle.fb_rules.specs.declared.{site.Halt.Halt, site.LastLink.LastLink, table.Child.Child}
+use Rattle.fb_schema.specs.{Served.IsServed, Rows.is_table, Live.widest}
+use Rattle.fb_rules.specs.declared.{fault.Fault.Fault, fault.Report.Report, link.Link.Link, site.Halt.Halt, site.LastLink.LastLink, table.Child.Child}
 use Rattle.fb_rules.specs.{Question.Question, Bounds.AreAllowed, Told.stopped, Tree.Tree, Places.target, WellFormed.base, WellFormed.IsWellFormed, WellFormed.IsWithin}
-use Rattle.fb_rules.specs.declared.{start.Start.TheVariants.Bare, start.Ident.TheVariants.Any}
-use Rattle.fb_rules.specs.Links.{StopsAlong}
+use Rattle.fb_rules.specs.{declared.start.Start.TheVariants.Bare, declared.start.Ident.TheVariants.Any, Links.StopsAlong}
 use Rattle.std.specs.List.{sum_by}
-use Rattle.fb_schema.specs.Rows.{is_table}
-use Rattle.fb_schema.specs.Live.{widest}
 use Rattle.fb_verify.specs.Stack.{last_link, links_left}
-use Rattle.fb_strict.specs.declared.{inner.Inner.Inner, room.Frame.Frame, levels.Level.Level, levels.Unmet.Unmet}
-use Rattle.fb_strict.specs.declared.{levels.Missed.Missed, levels.Rest.Rest, levels.Rest.TheVariants.Tables, levels.Rest.TheVariants.Walked}
-use Rattle.fb_strict.specs.Planned.{Planned, IsPlan}
-use Rattle.fb_strict.specs.Asked.{Demand, demands_of, demands_reads}
-use Rattle.fb_strict.specs.Passing.{Passing, wants_of, AreLeft, GoesOn, Halts, Moves, Breaks, IsInner, frame_links, AreLinked}
-use Rattle.fb_strict.specs.Nested.{Refused, spent_alone, place_in, and_reads, IsEntered, Course, ComeTo, EndsWith, IsWalked}
-use Rattle.fb_strict.specs.Nested.{asked_of, question_inside, later, and_walk, bytes_inside, open_at, limits_left, limits_inside}
+use Rattle.fb_strict.specs.declared.{inner.Inner.Inner, room.Frame.Frame, levels.Level.Level, levels.Unmet.Unmet, levels.Missed.Missed, levels.Rest.Rest}
+use Rattle.fb_strict.specs.{declared.levels.Rest.TheVariants.Tables, declared.levels.Rest.TheVariants.Walked, Planned.Planned, Planned.IsPlan, Asked.Demand, Asked.demands_of}
+use Rattle.fb_strict.specs.{Asked.demands_reads, Passing.Passing, Passing.wants_of, Passing.AreLeft, Passing.GoesOn, Passing.Halts, Passing.Moves, Passing.Breaks, Passing.IsInner}
+use Rattle.fb_strict.specs.{Passing.frame_links, Passing.AreLinked, Nested.Refused, Nested.spent_alone, Nested.place_in, Nested.and_reads, Nested.IsEntered, Nested.Course}
+use Rattle.fb_strict.specs.Nested.{ComeTo, EndsWith, IsWalked, asked_of, question_inside, later, and_walk, bytes_inside, open_at, limits_left, limits_inside}
 
 -- an open buffer: how many tables are open above its root, its bytes, where they begin in the whole, the links that
 -- lead to it, and what is left to be asked of it

@@ -1,9 +1,7 @@
 -- Marks while they are made, and the marked objects in the order in which they were marked.
 use Rattle.std.specs.Prelude.{◌≡◌, ◌⊎◌, ◌+◌, ◌<◌, ℕ, Bool, true, false, not, List, [], length, replicate, slice_get, Some, count_by}
-use Rattle.fb_schema.specs.{Rows.Rows}
-use Rattle.fb_strict.specs.Demanded.{Demanded}
-use Rattle.fb_strict.specs.Skipped.{has_asked}
-use Rattle.fb_strict.specs.Planned.{marked, marked_wants, AreFounded}
+use Rattle.fb_schema.specs.Rows.{Rows}
+use Rattle.fb_strict.specs.{Demanded.Demanded, Skipped.has_asked, Planned.marked, Planned.marked_wants, Planned.AreFounded}
 
 -- exactly the objects that are marked are in the queue
 pub record IsQueue (marks : List Bool) (queue : List ℕ) : Type 0 where

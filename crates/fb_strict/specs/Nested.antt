@@ -1,13 +1,10 @@
 -- A buffer with those inside it: what all of them spend together, and the first fault.
 use Rattle.std.specs.Prelude.{◌≡◌, ℕ, ◌+◌, ◌-◌, min, max, List, [], ◌∷◌, ◌++◌, length, take, drop, slice_get, Option, Some, None, option_map, Result, Ok, Err}
-use Rattle.fb_rules.specs.declared.{fault.Fault.Fault, fault.Report.Report, link.Link.Link}
-use Rattle.fb_rules.specs.declared.{start.Start.TheVariants.Bare, start.Ident.TheVariants.Any}
-use Rattle.fb_rules.specs.{Bounds.Bounds, Bounds.AreAllowed, Question.Question, Tree.Tree, Tree.size, Tree.depth}
-use Rattle.fb_rules.specs.{WellFormed.IsWellFormed, WellFormed.IsWithin, WellFormed.cost, Stops.reads_failure, Links.StopsAlong}
-use Rattle.fb_rules.specs.Order.{◌▷◌}
-use Rattle.fb_strict.specs.declared.inner.Inner.{Inner}
-use Rattle.fb_strict.specs.{Planned.Planned, Planned.wants_in, Skipped.IsClosed, Strict.IsStrictBuffer}
-use Rattle.fb_strict.specs.Asked.{Demand, ArePlain, demand_fault, demands_of, demands_reads, first_fault, first_links}
+use Rattle.fb_rules.specs.declared.{fault.Fault.Fault, fault.Report.Report, link.Link.Link, start.Start.TheVariants.Bare, start.Ident.TheVariants.Any}
+use Rattle.fb_rules.specs.{Bounds.Bounds, Bounds.AreAllowed, Question.Question, Tree.Tree, Tree.size, Tree.depth, WellFormed.IsWellFormed, WellFormed.IsWithin, WellFormed.cost}
+use Rattle.fb_rules.specs.{Stops.reads_failure, Links.StopsAlong, Order.◌▷◌}
+use Rattle.fb_strict.specs.{declared.inner.Inner.Inner, Planned.Planned, Planned.wants_in, Skipped.IsClosed, Strict.IsStrictBuffer, Asked.Demand, Asked.ArePlain}
+use Rattle.fb_strict.specs.Asked.{demand_fault, demands_of, demands_reads, first_fault, first_links}
 
 -- the bytes of a buffer inside
 abbrev pub bytes_inside : List ℕ → Inner → List ℕ

@@ -4,23 +4,21 @@ use Rattle.std.specs.Prelude.{◌++◌, length, map, take, drop, get_or, slice_g
 use Rattle.fb_bytes.specs.Word.{Lent, word}
 use Rattle.fb_schema.specs.{Rows.Rows, Rows.is_table, Rows.is_union, Live.Live, Live.live_fields, Served.IsServed, Served.IsSized, Served.KindHolds}
 use Rattle.fb_rules.specs.declared.{checks.Checks.Checks, fault.Fault.Fault, site.Site.Site, site.Stop.Stop, site.Halt.Halt, table.Table.Table, table.Child.Child}
-use Rattle.fb_rules.specs.declared.{site.LastLink.LastLink, site.LastLink.TheVariants.Behind, site.LastLink.TheVariants.InField, link.Link.Link}
-use Rattle.fb_rules.specs.declared.{offset_row.Referent.Referent, offset_row.Row.Row, offset_row.Leads.Leads, offset_row.Leads.TheVariants.All, offset_row.Leads.TheVariants.ByType}
-use Rattle.fb_rules.specs.declared.offset_row.Referent.TheVariants.{Text as AText, Table as ATable, Nothing}
-use Rattle.fb_rules.specs.{Bounds.Bounds, Bounds.AreAllowed, Bounds.allowed, Places.target, Places.field_place, Fields.IsField, Fields.type_place, Fields.types_begin, Fields.union_type}
-use Rattle.fb_rules.specs.{Cost.head_reads, Cost.slot_reads, Cost.reads_if_present, Order.Failure, Order.after, Order.◌▷◌, Stops.reads_failure, Told.IsHead}
-use Rattle.fb_rules.specs.{Told.IsAskedAt, Told.told, Told.stopped, OffsetRows.words_of, OffsetRows.past_first, OffsetRows.IsTyped, OffsetRows.TypeFits, OffsetRows.TypesFit}
-use Rattle.fb_rules.specs.Tree.{Tree, Kids, kids_depth, Elements, elements_depth, depth}
-use Rattle.fb_rules.specs.Unfolds.{FieldsUnfold, ElementsUnfold, Unfolds}
+use Rattle.fb_rules.specs.declared.{site.LastLink.LastLink, site.LastLink.TheVariants.Behind, site.LastLink.TheVariants.InField, link.Link.Link, offset_row.Referent.Referent}
+use Rattle.fb_rules.specs.declared.offset_row.{Row.Row, Leads.Leads, Leads.TheVariants.All, Leads.TheVariants.ByType, Referent.TheVariants.Text as AText}
+use Rattle.fb_rules.specs.{declared.offset_row.Referent.TheVariants.Table as ATable, declared.offset_row.Referent.TheVariants.Nothing, Bounds.Bounds, Bounds.AreAllowed}
+use Rattle.fb_rules.specs.{Bounds.allowed, Places.target, Places.field_place, Fields.IsField, Fields.type_place, Fields.types_begin, Fields.union_type, Cost.head_reads}
+use Rattle.fb_rules.specs.{Cost.slot_reads, Cost.reads_if_present, Order.Failure, Order.after, Order.◌▷◌, Stops.reads_failure, Told.IsHead, Told.IsAskedAt, Told.told, Told.stopped}
+use Rattle.fb_rules.specs.{OffsetRows.words_of, OffsetRows.past_first, OffsetRows.IsTyped, OffsetRows.TypeFits, OffsetRows.TypesFit, Tree.Tree, Tree.Kids, Tree.kids_depth}
+use Rattle.fb_rules.specs.{Tree.Elements, Tree.elements_depth, Tree.depth, Unfolds.FieldsUnfold, Unfolds.ElementsUnfold, Unfolds.Unfolds}
 use Rattle.fb_verify.specs.Stack.{own_link, last_link, links_left}
 use Rattle.fb_strict.specs.declared.{inner.Inner.Inner, room.Frame.Frame, tasks.Ask.Ask, tasks.Task.Task, pass.Turn.Turn, pass.Turned.Turned, pass.Turn.TheVariants.Here}
-use Rattle.fb_strict.specs.declared.{pass.Turn.TheVariants.Up, pass.Turn.TheVariants.Down, pass.Turn.TheVariants.In, pass.Turned.TheVariants.Open, pass.Turned.TheVariants.Inside}
-use Rattle.fb_strict.specs.declared.tasks.Held.TheVariants.{Buffer, Flex}
-use Rattle.fb_strict.specs.declared.tasks.Ask.TheVariants.{Text as AskText, Texts as AskTexts, Union as AskUnion, Unions as AskUnions, Table as GoInto, Tables as GoIntoEach, Bytes as AskBytes}
-use Rattle.fb_strict.specs.{Planned.Planned, Planned.IsPlan, Planned.task_of, Planned.tasks_in, Skipped.Wants, Planned.wants_in}
-use Rattle.fb_strict.specs.InOrder.{where_asked, places_reads, union_failure, union_reads, together_failure, bytes_failure}
-use Rattle.fb_strict.specs.InOrder.{bytes_reads, bytes_inner, element_failure, element_reads, member_at, text_failure, text_reads}
-use Rattle.fb_strict.specs.Asked.{Demand, reading, slots_demands, asked_referent, first_referent, vectors_reads}
+use Rattle.fb_strict.specs.declared.pass.{Turn.TheVariants.Up, Turn.TheVariants.Down, Turn.TheVariants.In, Turned.TheVariants.Open, Turned.TheVariants.Inside}
+use Rattle.fb_strict.specs.declared.tasks.{Held.TheVariants.Buffer, Held.TheVariants.Flex, Ask.TheVariants.Text as AskText, Ask.TheVariants.Texts as AskTexts}
+use Rattle.fb_strict.specs.declared.tasks.Ask.TheVariants.{Union as AskUnion, Unions as AskUnions, Table as GoInto, Tables as GoIntoEach, Bytes as AskBytes}
+use Rattle.fb_strict.specs.{Planned.Planned, Planned.IsPlan, Planned.task_of, Planned.tasks_in, Skipped.Wants, Planned.wants_in, InOrder.where_asked, InOrder.places_reads}
+use Rattle.fb_strict.specs.InOrder.{union_failure, union_reads, together_failure, bytes_failure, bytes_reads, bytes_inner, element_failure, element_reads, member_at, text_failure}
+use Rattle.fb_strict.specs.{InOrder.text_reads, Asked.Demand, Asked.reading, Asked.slots_demands, Asked.asked_referent, Asked.first_referent, Asked.vectors_reads}
 use Rattle.fb_strict.specs.Asked.{demands_in_fields, demands_in_row, demands_in, ArePlain, demands_reads, demand_fault, first_fault}
 use Rattle.fb_strict.specs.Demanded.{Demanded}
 

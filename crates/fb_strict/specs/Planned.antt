@@ -1,15 +1,12 @@
 -- The plan of a pass: which objects are asked, and of each what is asked of its fields.
 use Rattle.std.specs.Prelude.{◌≡◌, ◌↔◌, ◌<◌, ℕ, Bool, true, false, ◌||◌, if◌then◌else◌, List, length, slice_get, slice_index_or, filter_map, Option, Some, None, option_map, IsTrue}
-use Rattle.fb_schema.specs.declared.kinds.Kind.{Kind}
-use Rattle.fb_schema.specs.declared.kinds.Kind.TheVariants.{Text, Table, Union, Texts, Tables, Unions}
+use Rattle.fb_schema.specs.declared.kinds.Kind.{Kind, TheVariants.Text, TheVariants.Table, TheVariants.Union, TheVariants.Texts, TheVariants.Tables, TheVariants.Unions}
 use Rattle.fb_schema.specs.{Rows.Rows, Rows.is_table, Live.Live, Live.live_fields}
-use Rattle.fb_strict.specs.declared.{tasks.Ask.Ask, tasks.Task.Task}
-use Rattle.fb_strict.specs.declared.tasks.Ask.TheVariants.{Text as AskText, Texts as AskTexts, Union as AskUnion, Unions as AskUnions, Table as GoInto, Tables as GoIntoEach, Bytes as AskBytes}
-use Rattle.fb_strict.specs.declared.tasks.Held.TheVariants.{Buffer}
+use Rattle.fb_strict.specs.declared.tasks.{Ask.Ask, Task.Task, Ask.TheVariants.Text as AskText, Ask.TheVariants.Texts as AskTexts, Ask.TheVariants.Union as AskUnion}
+use Rattle.fb_strict.specs.declared.tasks.Ask.TheVariants.{Unions as AskUnions, Table as GoInto, Tables as GoIntoEach, Bytes as AskBytes}
+use Rattle.fb_strict.specs.{declared.tasks.Held.TheVariants.Buffer, Demanded.Demanded, Demanded.held_of, Holding.held_in, Skipped.Wants, Skipped.is_kind_asked}
+use Rattle.fb_strict.specs.Skipped.{ReachesDemand}
 use Rattle.fb_rules.specs.Order.{◌▷◌}
-use Rattle.fb_strict.specs.Demanded.{Demanded, held_of}
-use Rattle.fb_strict.specs.Holding.{held_in}
-use Rattle.fb_strict.specs.Skipped.{Wants, is_kind_asked, ReachesDemand}
 
 -- which objects these marks say
 abbrev pub marked : List Bool → ℕ → Bool

@@ -1,15 +1,13 @@
 -- What a reader of a strict buffer relies on, wherever it comes to a table.
 use Rattle.std.specs.Prelude.{◌≡◌, ◌≢◌, ◌↔◌, ◌⊎◌, ℕ, ◌+◌, ◌*◌, ◌<◌, ◌≤◌, true, List, length, slice_get, Some, None}
 use Rattle.fb_bytes.specs.Word.{word}
-use Rattle.fb_schema.specs.declared.kinds.Kind.TheVariants.{Union, Unions}
-use Rattle.fb_schema.specs.{Rows.Rows, Live.Live, Live.live_fields, Members.member_of}
-use Rattle.fb_rules.specs.declared.checks.Checks.{Checks}
-use Rattle.fb_rules.specs.{Places.target, Places.field_place, Fields.type_place, Fields.types_begin, Fields.union_type, Fields.entries}
-use Rattle.fb_rules.specs.Tree.{Tree, node, Kids, no_kids, kid, Elements, no_elements, element, Element, leaf, table}
-use Rattle.fb_rules.specs.{Question.Question, declared.fault.Report.Report}
-use Rattle.fb_strict.specs.declared.{inner.Inner.Inner, tasks.Held.TheVariants.Buffer, tasks.Held.TheVariants.Flex}
-use Rattle.fb_strict.specs.{Demanded.Demanded, Demanded.held_of, Planned.Planned, Nested.bytes_inside, Nested.question_inside, Nested.IsGood}
-use Rattle.fb_strict.specs.Strict.{IsStrict, IsStrictTable, AreUtf8, HasKnownFields}
+use Rattle.fb_schema.specs.{declared.kinds.Kind.TheVariants.Union, declared.kinds.Kind.TheVariants.Unions, Rows.Rows, Live.Live, Live.live_fields, Members.member_of}
+use Rattle.fb_rules.specs.{declared.checks.Checks.Checks, Places.target, Places.field_place, Fields.type_place, Fields.types_begin, Fields.union_type, Fields.entries, Tree.Tree}
+use Rattle.fb_rules.specs.{Tree.node, Tree.Kids, Tree.no_kids, Tree.kid, Tree.Elements, Tree.no_elements, Tree.element, Tree.Element, Tree.leaf, Tree.table, Question.Question}
+use Rattle.fb_rules.specs.declared.fault.Report.{Report}
+use Rattle.fb_strict.specs.{declared.inner.Inner.Inner, declared.tasks.Held.TheVariants.Buffer, declared.tasks.Held.TheVariants.Flex, Demanded.Demanded, Demanded.held_of}
+use Rattle.fb_strict.specs.{Planned.Planned, Nested.bytes_inside, Nested.question_inside, Nested.IsGood, Strict.IsStrict, Strict.IsStrictTable, Strict.AreUtf8}
+use Rattle.fb_strict.specs.Strict.{HasKnownFields}
 
 -- the tree has a visit of a table of the object k at t
 unfoldable mutual

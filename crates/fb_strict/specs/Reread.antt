@@ -1,8 +1,7 @@
 -- What of the field of a task can be read again, once the pass went through a word of it.
 use Rattle.std.specs.Prelude.{ℕ, ◌<◌, List}
 use Rattle.fb_rules.specs.{Fields.type_place, Fields.type_count, OffsetRows.TypeFits, OffsetRows.TypesFit}
-use Rattle.fb_strict.specs.declared.tasks.Ask.{Ask}
-use Rattle.fb_strict.specs.declared.tasks.Ask.TheVariants.{Texts as AskTexts, Union as AskUnion, Unions as AskUnions, Tables as GoIntoEach}
+use Rattle.fb_strict.specs.declared.tasks.Ask.{Ask, TheVariants.Texts as AskTexts, TheVariants.Union as AskUnion, TheVariants.Unions as AskUnions, TheVariants.Tables as GoIntoEach}
 use Rattle.fb_strict.specs.Passing.{CountStands}
 
 -- where it is a vector that stands at p, its count

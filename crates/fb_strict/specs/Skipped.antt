@@ -1,13 +1,10 @@
 -- The objects of which nothing is asked: nothing that is demanded is reached from a table of them.
 use Rattle.std.specs.Prelude.{◌≡◌, ℕ, zero, suc, ◌||◌, Bool, true, false, List, Option, Some, is_some}
 use Rattle.std.specs.List.{list_any}
-use Rattle.fb_schema.specs.declared.kinds.Kind.{Kind}
-use Rattle.fb_schema.specs.declared.kinds.Kind.TheVariants.{Text, Table, Union, Texts, Tables, Unions}
+use Rattle.fb_schema.specs.declared.kinds.Kind.{Kind, TheVariants.Text, TheVariants.Table, TheVariants.Union, TheVariants.Texts, TheVariants.Tables, TheVariants.Unions}
 use Rattle.fb_schema.specs.{Rows.Rows, Live.Live, Live.live_fields, Members.member_of}
-use Rattle.fb_rules.specs.declared.checks.Checks.{Checks}
-use Rattle.fb_rules.specs.{Tree.Tree, Unfolds.Unfolds}
-use Rattle.fb_strict.specs.Demanded.{Demanded, held_of}
-use Rattle.fb_strict.specs.Strict.{IsStrict}
+use Rattle.fb_rules.specs.{declared.checks.Checks.Checks, Tree.Tree, Unfolds.Unfolds}
+use Rattle.fb_strict.specs.{Demanded.Demanded, Demanded.held_of, Strict.IsStrict}
 
 -- what is wanted of the buffers of a schema: what is demanded of them, and which objects are asked
 pub record Wants : Type 0 where

@@ -2,14 +2,12 @@
 -- inside.
 use Rattle.std.specs.Prelude.{◌≡◌, ◌≢◌, ◌↔◌, ℕ, ◌+◌, ◌-◌, ◌*◌, ◌/◌, ◌<◌, ◌≤◌, true, IsUtf8, List, length, take, drop, slice_get, Option, Some, None}
 use Rattle.fb_bytes.specs.Word.{word}
-use Rattle.fb_schema.specs.declared.kinds.Kind.{Kind, TheVariants.Union, TheVariants.Unions}
-use Rattle.fb_schema.specs.{Rows.Rows, Live.Live, Live.live_fields, Members.member_of}
-use Rattle.fb_rules.specs.declared.checks.Checks.{Checks}
-use Rattle.fb_rules.specs.{Places.target, Places.field_place, Places.vtable, Places.vtable_size, Facts.IsOffset}
-use Rattle.fb_rules.specs.Fields.{type_place, types_begin, union_type, Entry, entries, to_string}
-use Rattle.fb_strict.specs.Demanded.{Demanded, held_of}
-use Rattle.fb_strict.specs.declared.tasks.{Held.Held, Held.TheVariants.Flex}
-use Rattle.fb_rules.specs.Tree.{Tree, node, Kids, no_kids, kid, Elements, no_elements, element, Element, leaf, table}
+use Rattle.fb_schema.specs.{declared.kinds.Kind.Kind, declared.kinds.Kind.TheVariants.Union, declared.kinds.Kind.TheVariants.Unions, Rows.Rows, Live.Live, Live.live_fields}
+use Rattle.fb_schema.specs.Members.{member_of}
+use Rattle.fb_rules.specs.{declared.checks.Checks.Checks, Places.target, Places.field_place, Places.vtable, Places.vtable_size, Facts.IsOffset, Fields.type_place}
+use Rattle.fb_rules.specs.{Fields.types_begin, Fields.union_type, Fields.Entry, Fields.entries, Fields.to_string, Tree.Tree, Tree.node, Tree.Kids, Tree.no_kids, Tree.kid}
+use Rattle.fb_rules.specs.Tree.{Elements, no_elements, element, Element, leaf, table}
+use Rattle.fb_strict.specs.{Demanded.Demanded, Demanded.held_of, declared.tasks.Held.Held, declared.tasks.Held.TheVariants.Flex}
 
 -- a uoffset stands at p, and leads inside the buffer
 pub record LeadsInside (c : Checks) (b : List ℕ) (p : ℕ) : Type 0 where

@@ -1,13 +1,8 @@
 -- What a strict verdict says of a buffer.
 use Rattle.std.specs.Prelude.{◌⊎◌, ℕ, ◌+◌, List, Err}
-use Rattle.fb_rules.specs.declared.{fault.Fault.Fault, fault.Report.Report}
-use Rattle.fb_rules.specs.{Question.Question, Tree.Tree}
-use Rattle.fb_rules.specs.{WellFormed.cost, Stops.Stops}
-use Rattle.fb_rules.specs.declared.{link.Link.Link}
-use Rattle.fb_rules.specs.{Links.StopsAlong}
-use Rattle.fb_strict.specs.{Planned.Planned, Planned.wants_in}
-use Rattle.fb_strict.specs.Nested.{IsGood, IsBad, EndsWith}
-use Rattle.fb_strict.specs.Asked.{demands_of, demands_reads}
+use Rattle.fb_rules.specs.{declared.fault.Fault.Fault, declared.fault.Report.Report, Question.Question, Tree.Tree, WellFormed.cost, Stops.Stops, declared.link.Link.Link}
+use Rattle.fb_rules.specs.Links.{StopsAlong}
+use Rattle.fb_strict.specs.{Planned.Planned, Planned.wants_in, Nested.IsGood, Nested.IsBad, Nested.EndsWith, Asked.demands_of, Asked.demands_reads}
 
 -- all reads of a buffer that unfolds into this tree: those of the walk, and those of the pass by this plan
 abbrev pub strict_cost : Planned → Question → List ℕ → Tree → ℕ

@@ -4,11 +4,10 @@ ghost use Rattle.std.specs.Prelude.{◌≡◌, ◌⊎◌, ◌<◌, ◌++◌, ◌
 ghost use Rattle.std.specs.Prelude.{List};
 ghost use Rattle.std.specs.List.{list_any};
 ghost use Rattle.fb_schema.specs.{Rows.table_named, Rows.is_table, Live.live_fields, Sorting.IsOrderOf};
-ghost use Rattle.fb_strict.specs.{Demanded.held_by, Holding.held_in};
-ghost use Rattle.fb_bfbs.specs.{ByteFields.is_bytes, Marks.marked, Marks.held_of};
-ghost use Rattle.fb_strict.specs.Holding.{found_from, has_bytes, name_of, meant, holding_of, holdings_in, holdings_if, is_lost, IsPlanFault};
-ghost use Rattle.fb_strict.specs.Holding.{AreInOrder, IsFirstPlace, field_cmp, field_of, is_before, is_of};
+ghost use Rattle.fb_strict.specs.{Demanded.held_by, Holding.held_in, Holding.found_from, Holding.has_bytes, Holding.name_of, Holding.meant, Holding.holding_of};
+ghost use Rattle.fb_strict.specs.Holding.{holdings_in, holdings_if, is_lost, IsPlanFault, AreInOrder, IsFirstPlace, field_cmp, field_of, is_before, is_of};
 ghost use Rattle.fb_strict.specs.declared.holding.PlanFault.TheVariants.{OutOfMemory, NoSuchTable};
+ghost use Rattle.fb_bfbs.specs.{ByteFields.is_bytes, Marks.marked, Marks.held_of};
 
 use crate::demands::Demands;
 use crate::tasks::Held;

@@ -1,11 +1,9 @@
 //! Laws of the definitions: each is the contract of a function that does nothing.
 
-ghost use Rattle.fb_strict.specs.Asked.{DemandsLaw, FirstLaw, TasksLaw};
-ghost use Rattle.fb_strict.specs.Laws.{AllTextsAreUtf8, HasOneStrictVerdict, HeldBuffersAreGood, NoFieldIsUnknown, StrictCostIsBounded, StrictIsOk, StrictReadsAreBounded, UnionsLeadInside};
-ghost use Rattle.fb_strict.specs.InOrder.{ElementLaw, InsideLaw, LengthLaw, SlotLaw, TextLaw, UnionLaw, UnionsLaw};
-ghost use Rattle.fb_strict.specs.Nested.{ComeToOneEnd, PlainLaw, GoodInside, GoodIsStrict};
-ghost use Rattle.fb_strict.specs.Readers.{ElementsLaw, TablesLaw, ValuesLaw};
-ghost use Rattle.fb_strict.specs.{Skipped.SkipLaw, Planned.OnePlanLaw};
+ghost use Rattle.fb_strict.specs.{Asked.DemandsLaw, Asked.FirstLaw, Asked.TasksLaw, Laws.AllTextsAreUtf8, Laws.HasOneStrictVerdict, Laws.HeldBuffersAreGood, Laws.NoFieldIsUnknown};
+ghost use Rattle.fb_strict.specs.{Laws.StrictCostIsBounded, Laws.StrictIsOk, Laws.StrictReadsAreBounded, Laws.UnionsLeadInside, InOrder.ElementLaw, InOrder.InsideLaw};
+ghost use Rattle.fb_strict.specs.{InOrder.LengthLaw, InOrder.SlotLaw, InOrder.TextLaw, InOrder.UnionLaw, InOrder.UnionsLaw, Nested.ComeToOneEnd, Nested.PlainLaw};
+ghost use Rattle.fb_strict.specs.{Nested.GoodInside, Nested.GoodIsStrict, Readers.ElementsLaw, Readers.TablesLaw, Readers.ValuesLaw, Skipped.SkipLaw, Planned.OnePlanLaw};
 
 /// A chain of tests finds nothing exactly where what is demanded holds.
 #[tactic(auto, using(crate::proofs::Chains::inside_none, crate::proofs::Chains::union_none, crate::proofs::Chains::element_none, crate::proofs::Chains::text_none, crate::proofs::Chains::slot_none))]

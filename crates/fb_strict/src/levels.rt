@@ -3,13 +3,9 @@
 ghost use Rattle.std.specs.Prelude.{◌≡◌, ◌+◌, ◌-◌, ◌*◌, ◌^◌, ◌<◌, ◌≤◌, ℕ, List, length, take, IfOk, IfErr, Some, None, Ok, IsTrue};
 ghost use Rattle.fb_schema.specs.Rows.{is_table};
 ghost use Rattle.fb_rules.specs.{Bounds.AreAllowed, Tree.Tree};
-ghost use Rattle.fb_strict.specs.{Planned.IsPlan, Asked.Demand, Asked.demands_of, Asked.demands_reads};
-ghost use Rattle.fb_strict.specs.Passing.{wants_of, IsPassing, IsRooted};
-ghost use Rattle.fb_strict.specs.Nested.{limits_inside};
-ghost use Rattle.fb_strict.specs.Levels.{IsOpened, Legged, unmet_by, fault_of, bytes_of, asked_from, resting, passing_of, IsAsking, Begun};
-ghost use Rattle.fb_strict.specs.Levels.{RootBegun, IsWalkedAt, WalkStops, HasEntered, IsUnderWay, IsAtInner, EndsAlong, AreEnough, turns_left};
-ghost use Rattle.fb_strict.specs.Passing.{IsInner};
-ghost use Rattle.fb_strict.specs.Nested.{EndsWith};
+ghost use Rattle.fb_strict.specs.{Planned.IsPlan, Asked.Demand, Asked.demands_of, Asked.demands_reads, Passing.wants_of, Passing.IsPassing, Passing.IsRooted, Nested.limits_inside};
+ghost use Rattle.fb_strict.specs.Levels.{IsOpened, Legged, unmet_by, fault_of, bytes_of, asked_from, resting, passing_of, IsAsking, Begun, RootBegun, IsWalkedAt, WalkStops};
+ghost use Rattle.fb_strict.specs.{Levels.HasEntered, Levels.IsUnderWay, Levels.IsAtInner, Levels.EndsAlong, Levels.AreEnough, Levels.turns_left, Passing.IsInner, Nested.EndsWith};
 
 use crate::inner::Inner;
 use crate::pass::Pass;

@@ -2,11 +2,9 @@
 
 ghost use Rattle.std.specs.Prelude.{◌≡◌, ◌↔◌, ◌<◌, ℕ, [], length, true, false, map, OnOk, IfOk};
 ghost use Rattle.fb_schema.specs.Rows.{Rows};
-ghost use Rattle.fb_strict.specs.Skipped.{has_asked};
-ghost use Rattle.fb_strict.specs.Planned.{marked, marked_wants, AreFounded, AreMarks};
-ghost use Rattle.fb_strict.specs.Demanded.{demanded};
-ghost use Rattle.fb_strict.specs.Leading.{IsChained, IsFrom, Leads as LeadsOf, AreLeads};
-ghost use Rattle.fb_strict.specs.Marking.{IsQueue, NoneMarked, Spread, AreClosed, OwnMarked};
+ghost use Rattle.fb_strict.specs.{Skipped.has_asked, Planned.marked, Planned.marked_wants, Planned.AreFounded, Planned.AreMarks, Demanded.demanded, Leading.IsChained};
+ghost use Rattle.fb_strict.specs.{Leading.IsFrom, Leading.Leads as LeadsOf, Leading.AreLeads, Marking.IsQueue, Marking.NoneMarked, Marking.Spread, Marking.AreClosed};
+ghost use Rattle.fb_strict.specs.Marking.{OwnMarked};
 
 use crate::demands::Demands;
 use crate::holding::Holdings;

@@ -2,16 +2,13 @@
 
 ghost use Rattle.std.specs.Prelude.{◌≡◌, ◌+◌, ◌^◌, ◌<◌, ◌≤◌, ℕ, List, [], Option, length, IfOk, IfErr, Ok, Err, Some, None, IsTrue};
 ghost use Rattle.fb_bytes.specs.Word.{Lent, word};
-ghost use Rattle.fb_rules.specs.declared.{link.Link.Link, offset_row.Leads.TheVariants.ByType};
-ghost use Rattle.fb_schema.specs.{Rows.is_union, Targets.kind_to};
-ghost use Rattle.fb_rules.specs.{Bounds.AreAllowed, Order.Failure, Places.target, Places.field_place};
+ghost use Rattle.fb_rules.specs.{declared.link.Link.Link, declared.offset_row.Leads.TheVariants.ByType, Bounds.AreAllowed, Order.Failure, Places.target, Places.field_place};
 ghost use Rattle.fb_rules.specs.{Plain.IsTested, Told.IsAskedAt, Told.IsVtable};
-ghost use Rattle.fb_strict.specs.declared.tasks.Ask.{Ask};
-ghost use Rattle.fb_strict.specs.declared.tasks.Held.TheVariants.{Buffer, Flex};
-ghost use Rattle.fb_strict.specs.declared.tasks.Ask.TheVariants.{Union as AskUnion, Unions as AskUnions, Bytes as AskBytes};
-ghost use Rattle.fb_strict.specs.Asked.{Demand, asked_referent, demands_reads};
-ghost use Rattle.fb_strict.specs.Passing.{wants_of, IsPassing, IsRoom, IsTaskable, IsOne, IsEach, CountStands, IsAskedRow, word_row};
-ghost use Rattle.fb_strict.specs.Passing.{TaskPassed, TaskDone, IsLeft, IsNext, AreLeft, IsStanding, Stepped, HasTurned, WentOn, Begins, Went};
+ghost use Rattle.fb_schema.specs.{Rows.is_union, Targets.kind_to};
+ghost use Rattle.fb_strict.specs.declared.tasks.{Ask.Ask, Held.TheVariants.Buffer, Held.TheVariants.Flex, Ask.TheVariants.Union as AskUnion, Ask.TheVariants.Unions as AskUnions};
+ghost use Rattle.fb_strict.specs.{declared.tasks.Ask.TheVariants.Bytes as AskBytes, Asked.Demand, Asked.asked_referent, Asked.demands_reads, Passing.wants_of, Passing.IsPassing};
+ghost use Rattle.fb_strict.specs.Passing.{IsRoom, IsTaskable, IsOne, IsEach, CountStands, IsAskedRow, word_row, TaskPassed, TaskDone, IsLeft, IsNext, AreLeft, IsStanding, Stepped};
+ghost use Rattle.fb_strict.specs.Passing.{HasTurned, WentOn, Begins, Went};
 
 use crate::inner::Inner;
 use crate::plan::Plan;

@@ -4,9 +4,7 @@ ghost use Rattle.std.specs.Prelude.{◌≡◌, ◌⊎◌, ◌<◌, length, map, 
 ghost use Rattle.std.specs.List.{list_any};
 ghost use Rattle.fb_schema.specs.{Rows.Rows, Live.live_fields};
 ghost use Rattle.fb_bfbs.specs.Marks.{marked as mark_of};
-ghost use Rattle.fb_strict.specs.{Holding.holdings_if, Holding.is_lost, Holding.IsPlanFault};
-ghost use Rattle.fb_strict.specs.Demanded.{demanded, flags};
-ghost use Rattle.fb_strict.specs.declared.holding.PlanFault.TheVariants.{OutOfMemory};
+ghost use Rattle.fb_strict.specs.{Holding.holdings_if, Holding.is_lost, Holding.IsPlanFault, Demanded.demanded, Demanded.flags, declared.holding.PlanFault.TheVariants.OutOfMemory};
 ghost use Rattle.fb_strict.specs.Planned.{all_wants, wants_in, tasks_in, IsPlan, AreTasks};
 
 use crate::demands::Demands;

@@ -1,8 +1,7 @@
 // The room of a pass.
 
 ghost use Rattle.std.specs.Prelude.{◌≡◌, ◌<◌, ◌≤◌, IfOk, IfErr, Some};
-ghost use Rattle.fb_strict.specs.Passing.{opened};
-ghost use Rattle.fb_strict.specs.declared.room.RoomFault.TheVariants.{LimitOutOfRange, OutOfMemory};
+ghost use Rattle.fb_strict.specs.{Passing.opened, declared.room.RoomFault.TheVariants.LimitOutOfRange, declared.room.RoomFault.TheVariants.OutOfMemory};
 
 use crate::levels::{Level, NO_LEVEL};
 use fb_rules::offset_row::{NO_ROW, Row};

@@ -2,11 +2,10 @@
 
 ghost use Rattle.std.specs.Prelude.{◌≡◌, ◌+◌, ◌^◌, ◌<◌, ◌≤◌, length, max, min, take, IfOk, IfErr, IfSome, Some, None, IsTrue};
 ghost use Rattle.fb_schema.specs.Rows.{is_table};
-ghost use Rattle.fb_rules.specs.{Bounds.AreAllowed, Links.StopsAlong, MostReads.most_reads, Order.after, Places.target, Plain.tested_by, Stops.Stops, Verdict.Reports, WellFormed.base};
+ghost use Rattle.fb_rules.specs.{Bounds.AreAllowed, Links.StopsAlong, MostReads.most_reads, Order.after, Places.target, Plain.tested_by, Stops.Stops, Verdict.Reports};
+ghost use Rattle.fb_rules.specs.WellFormed.{base};
 ghost use Rattle.fb_verify.specs.Sealed.{sealed_by};
-ghost use Rattle.fb_strict.specs.{InOrder.where_asked, InOrder.length_failure, Levels.AreEnough, Planned.IsPlan};
-ghost use Rattle.fb_strict.specs.MostReads.{most_reads_strictly};
-ghost use Rattle.fb_strict.specs.Nested.{limits_left};
+ghost use Rattle.fb_strict.specs.{InOrder.where_asked, InOrder.length_failure, Levels.AreEnough, Planned.IsPlan, MostReads.most_reads_strictly, Nested.limits_left};
 ghost use Rattle.fb_strict.specs.Strictly.{ReportsStrictly, HasNoneStrictly, StopsStrictly, StopsAlongStrictly};
 
 use crate::plan::Plan;

@@ -1,12 +1,10 @@
 // What is asked of the fields of a table.
 
 ghost use Rattle.std.specs.Prelude.{◌≡◌, ◌||◌, IfOk, IsTrue};
-ghost use Rattle.fb_schema.specs.{Live.live_fields, Rows.is_table, Rows.is_union};
-ghost use Rattle.fb_strict.specs.{Leading.KindIsThere, Planned.marked, Planned.all_wants, Planned.ask_by, Planned.ask_of, Planned.asked_of, Planned.tasks_in};
-ghost use Rattle.fb_schema.specs.Live.{live_of_view};
-ghost use Rattle.fb_strict.specs.Demanded.{demanded};
-ghost use Rattle.std.specs.List.{list_any};
+ghost use Rattle.fb_schema.specs.{Live.live_fields, Rows.is_table, Rows.is_union, Live.live_of_view};
+ghost use Rattle.fb_strict.specs.{Leading.KindIsThere, Planned.marked, Planned.all_wants, Planned.ask_by, Planned.ask_of, Planned.asked_of, Planned.tasks_in, Demanded.demanded};
 ghost use Rattle.fb_strict.specs.Skipped.{is_member_asked, some_member, is_kind_asked, has_asked};
+ghost use Rattle.std.specs.List.{list_any};
 
 use crate::demands::Demands;
 use crate::holding::{Holdings, has_held, held_of};

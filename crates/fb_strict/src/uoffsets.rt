@@ -2,10 +2,9 @@
 
 ghost use Rattle.std.specs.Prelude.{◌≡◌, ◌+◌, ◌^◌, ◌<◌, ◌≤◌, ℕ, List, length, IfOk, None, IsTrue};
 ghost use Rattle.fb_schema.specs.Rows.{is_union};
-ghost use Rattle.fb_rules.specs.declared.{link.Link.Link, offset_row.Leads.TheVariants.ByType};
-ghost use Rattle.fb_rules.specs.{OffsetRows.AreUnionTargets, Places.target, Told.IsAskedAt};
-ghost use Rattle.fb_strict.specs.Asked.{Demand};
-ghost use Rattle.fb_strict.specs.Passing.{IsPassing, IsRoom, FirstPassed, WordsPassed, TextStands, TextPassed, ReferentStands, ReferentPassed, IsLeft, Stepped};
+ghost use Rattle.fb_rules.specs.{declared.link.Link.Link, declared.offset_row.Leads.TheVariants.ByType, OffsetRows.AreUnionTargets, Places.target, Told.IsAskedAt};
+ghost use Rattle.fb_strict.specs.{Asked.Demand, Passing.IsPassing, Passing.IsRoom, Passing.FirstPassed, Passing.WordsPassed, Passing.TextStands, Passing.TextPassed};
+ghost use Rattle.fb_strict.specs.Passing.{ReferentStands, ReferentPassed, IsLeft, Stepped};
 
 use crate::pass::{Pass, Turn};
 use crate::room::Frame;

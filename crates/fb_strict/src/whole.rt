@@ -3,8 +3,7 @@
 ghost use Rattle.std.specs.Prelude.{◌≡◌, ℕ, ◌^◌, ◌<◌, ◌≤◌, length, take, IfOk, IfErr, Err, IsTrue};
 ghost use Rattle.fb_schema.specs.Rows.{is_table};
 ghost use Rattle.fb_rules.specs.{Tree.Tree, Verdict.Reports};
-ghost use Rattle.fb_strict.specs.{Planned.IsPlan, Nested.IsGood, Nested.IsBad, Nested.EndsWith};
-ghost use Rattle.fb_strict.specs.Levels.{IsAsking, IsWalkedWhole, EndsAlong, AreEnough};
+ghost use Rattle.fb_strict.specs.{Planned.IsPlan, Nested.IsGood, Nested.IsBad, Nested.EndsWith, Levels.IsAsking, Levels.IsWalkedWhole, Levels.EndsAlong, Levels.AreEnough};
 
 use crate::levels::{Asking, Level, Missed, NO_LEVEL};
 use crate::plan::Plan;

@@ -1,25 +1,18 @@
 -- What holds of a table whose fields are small holds of those below it that have its vtable and are aligned alike.
 use Rattle.std.proofs.Common.{◌≡◌, ℕ, suc, ◌+◌, ◌*◌, ◌<◌, ◌≤◌, ◌==◌, ◌%◌, ◌⊎◌, inl, inr, Bool, true, false, nat_le, List, [], ◌∷◌, map, drop, length, refl, sym, ◌∙◌, ap, subst, arith, Option, Some, None, Ok, if◌then◌else◌}
 use Rattle.std.specs.List.{All}
-use Rattle.std.proofs.lemmas.{Bool.Decides.nat_tests, List.length-map, List.length-drop, List.Elements.All-head, List.Elements.All-tail}
-use Rattle.std.proofs.lemmas.List.Sums.{sum_by-cons}
+use Rattle.std.proofs.lemmas.{Bool.Decides.nat_tests, List.length-map, List.length-drop, List.Elements.All-head, List.Elements.All-tail, List.Sums.sum_by-cons}
 use Rattle.fb_bytes.specs.Word.{Lent, word}
-use Rattle.fb_schema.specs.declared.{views.Act.Act, views.Step.Step}
+use Rattle.fb_schema.specs.{Live.Live, Live.live_fields, Steps.step_of, declared.views.Act.Act, declared.views.Step.Step}
 use Rattle.fb_schema.specs.declared.views.Act.TheVariants.{One, Two, Four, Eight, Other}
-use Rattle.fb_schema.specs.{Live.Live, Live.live_fields, Steps.step_of}
-use Rattle.fb_rules.specs.declared.{checks.Checks.Checks, passed.Passed.Passed, table.Table.Table}
-use Rattle.fb_verify.specs.declared.{scratch.Frame.Frame, stack.Walk.Walk}
-use Rattle.fb_rules.specs.declared.table.Head.{Head}
-use Rattle.fb_rules.specs.{Alike.IsSmallStep, Alike.IsLike, Alike.IsPassed, Bounds.AreAllowed, Cost.head_reads, Cost.slot_reads}
-use Rattle.fb_rules.specs.Told.{IsHead}
-use Rattle.fb_verify.specs.{Flat.MayOpen, Flat.PassesFlat, Stack.opened, Stack.Waiting, Stack.IsWalking}
+use Rattle.fb_rules.specs.{Alike.IsSmallStep, Alike.IsLike, Alike.IsPassed, Bounds.AreAllowed, Cost.head_reads, Cost.slot_reads, Told.IsHead}
 use Rattle.fb_rules.specs.Order.{after, head_failure, table_failure, inline_failure, inline_field_failure}
 use Rattle.fb_rules.specs.Places.{is_aligned, vtable, vtable_size, inline_size, has_slot, field_place, ends_in_table}
 use Rattle.fb_rules.specs.Plain.{tested_by, FindsVtable, first_word_failure, vtable_failure, step_failure, step_failure_at, step_reads_at, plain_failure, plain_reads, StepsHold, steps_reads}
-use Rattle.fb_rules.proofs.{Budgets.fewer_reads, Heads.head_parts, Heads.head_reads_parts}
-use Rattle.fb_verify.proofs.Passing.{left_from, AtStep, step_passed}
-use Rattle.fb_rules.proofs.Chains.{after_none, head_none}
-use Rattle.fb_verify.proofs.Walking.{table_closed}
+use Rattle.fb_rules.specs.declared.{checks.Checks.Checks, passed.Passed.Passed, table.Table.Table, table.Head.Head}
+use Rattle.fb_verify.specs.{Flat.MayOpen, Flat.PassesFlat, Stack.opened, Stack.Waiting, Stack.IsWalking, declared.scratch.Frame.Frame, declared.stack.Walk.Walk}
+use Rattle.fb_rules.proofs.{Budgets.fewer_reads, Heads.head_parts, Heads.head_reads_parts, Chains.after_none, Chains.head_none}
+use Rattle.fb_verify.proofs.{Passing.left_from, Passing.AtStep, Passing.step_passed, Walking.table_closed}
 
 -- A small field is of one of four acts.
 no_other : (act : Act) → (act ≡ One) ⊎ (act ≡ Two) ⊎ (act ≡ Four) ⊎ (act ≡ Eight) → act ≡ Other → ⊥

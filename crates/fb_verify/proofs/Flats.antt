@@ -2,27 +2,18 @@
 use Rattle.std.proofs.Common.{◌≡◌, ℕ, ◌+◌, ◌*◌, ◌^◌, ◌<◌, ◌≤◌, IsTrue, Bool, true, false, List, [], ◌∷◌, ◌++◌, map, length, refl, sym, ◌∙◌, ap, subst, arith, Option, Some, None, Result, Ok, Err}
 use Rattle.std.proofs.lemmas.{Bool.lt-ltb, List.length-map}
 use Rattle.fb_bytes.specs.Word.{Lent}
-use Rattle.fb_schema.specs.{Rows.Rows, Rows.is_table, Live.live_fields, Steps.is_plain, Steps.step_of}
+use Rattle.fb_schema.specs.{Rows.Rows, Rows.is_table, Live.live_fields, Steps.is_plain, Steps.step_of, declared.views.Step.Step}
 use Rattle.fb_schema.proofs.Numbers.{slice_get_some}
-use Rattle.fb_rules.specs.declared.{checks.Checks.Checks, fault.Reason.Reason, table.Head.Head, table.Table.Table, offset_row.Row.Row}
-use Rattle.fb_rules.specs.declared.offset_row.{Leads.TheVariants.All, Referent.Referent, Referent.TheVariants.Table as ATable}
-use Rattle.fb_verify.specs.declared.scratch.Frame.{Frame}
+use Rattle.fb_rules.specs.{Bounds.Bounds, Places.target, Fields.Lead, Fields.Entry, Fields.to_table, Cost.head_reads, Cost.lead_reads, Stops.budget_failure, Stops.reads_failure}
+use Rattle.fb_rules.specs.{Stops.lead_reads_failure, OffsetRows.lead_to, OffsetRows.first_word, OffsetRows.word_at, OffsetRows.past_first, OffsetRows.IsLeafLead, Way.Way}
+use Rattle.fb_rules.specs.{Told.told, Told.refused, Told.stopped, Told.IsHead, Order.Failure, Order.after, Order.◌▷◌, Order.head_failure, Order.lead_failure, Order.element_failure}
+use Rattle.fb_rules.specs.{Plain.tested_by, Plain.IsTested, Plain.StepsHold, Plain.steps_reads, declared.checks.Checks.Checks, declared.fault.Reason.Reason, declared.table.Head.Head}
+use Rattle.fb_rules.specs.declared.{table.Table.Table, offset_row.Row.Row, offset_row.Leads.TheVariants.All, offset_row.Referent.Referent, offset_row.Referent.TheVariants.Table as ATable}
 use Rattle.fb_rules.specs.declared.site.{Refusal.Refusal, Site.Site, Stop.Stop}
-use Rattle.fb_verify.specs.declared.stack.Walk.{Walk}
-use Rattle.fb_schema.specs.declared.views.Step.{Step}
-use Rattle.fb_rules.specs.{Bounds.Bounds, Places.target, Fields.Lead, Fields.Entry, Fields.to_table, Cost.head_reads, Cost.lead_reads}
-use Rattle.fb_rules.specs.Stops.{budget_failure, reads_failure, lead_reads_failure}
-use Rattle.fb_verify.specs.PassesOn.{HasRoom, IsBetween, PassesOn}
-use Rattle.fb_rules.specs.{OffsetRows.lead_to, OffsetRows.first_word, OffsetRows.word_at, OffsetRows.past_first, OffsetRows.IsLeafLead, Way.Way}
-use Rattle.fb_rules.specs.Told.{told, refused, stopped, IsHead}
-use Rattle.fb_verify.specs.Flat.{in_head, Going, MayPass, PassesFlat}
-use Rattle.fb_rules.specs.Order.{Failure, after, ◌▷◌, head_failure, lead_failure, element_failure}
-use Rattle.fb_rules.specs.Plain.{tested_by, IsTested, StepsHold, steps_reads}
-use Rattle.fb_verify.specs.Stack.{opened, Waiting, Origin, IsUnderWay, IsAtTable, StopsIn, work}
-use Rattle.fb_rules.proofs.{Budgets.fewer_reads, Chains.after_none, Few.head_few, Plains.after_twice, Plains.never_leads}
-use Rattle.fb_verify.proofs.Passing.{told_grows}
-use Rattle.fb_rules.proofs.{Refusals.told_after, Refusals.told_first, Words.first_place}
-use Rattle.fb_verify.proofs.Walking.{word_stops, table_closed}
+use Rattle.fb_verify.specs.{PassesOn.HasRoom, PassesOn.IsBetween, PassesOn.PassesOn, Flat.in_head, Flat.Going, Flat.MayPass, Flat.PassesFlat}
+use Rattle.fb_verify.specs.{Stack.opened, Stack.Waiting, Stack.Origin, Stack.IsUnderWay, Stack.IsAtTable, Stack.StopsIn, Stack.work, declared.scratch.Frame.Frame, declared.stack.Walk.Walk}
+use Rattle.fb_rules.proofs.{Budgets.fewer_reads, Chains.after_none, Few.head_few, Plains.after_twice, Plains.never_leads, Refusals.told_after, Refusals.told_first, Words.first_place}
+use Rattle.fb_verify.proofs.{Passing.told_grows, Walking.word_stops, Walking.table_closed}
 
 -- a field of a table of which none leads on isn't there to lead on
 pub never_on : {w : Walk} {m new : Lent} {under : Waiting} {top past : Frame} {at : ℕ} → is_plain w.schema.now (top.table).object ≡ true → past.table ≡ top.table → PassesOn w m new under top past at (Ok true) → ⊥

@@ -3,11 +3,9 @@ use Rattle.std.proofs.Common.{◌≡◌, ℕ, ◌+◌, ◌*◌, ◌^◌, ◌<◌
 use Rattle.std.specs.{Prelude.slice_get, Borrow.Bor, Slice.IsItemAt}
 use Rattle.std.proofs.lemmas.{List.length-map, List.take_at, Option.slice_get-get_or, Option.slice_get-map, Option.slice_get_within}
 use Rattle.fb_schema.specs.{Rows.Rows, Rows.is_table, Live.live_fields, Served.IsServed}
-use Rattle.fb_rules.specs.declared.{checks.Checks.Checks, table.Table.Table as TableOf, offset_row.Row.Row}
-use Rattle.fb_verify.specs.declared.scratch.Frame.{Frame}
-use Rattle.fb_rules.specs.{Told.IsHead}
-use Rattle.fb_rules.specs.OffsetRows.{past_first, IsRow, AreTypesNear}
-use Rattle.fb_verify.specs.Stack.{blank, opened, IsFrame, frame_work}
+use Rattle.fb_rules.specs.{Told.IsHead, OffsetRows.past_first, OffsetRows.IsRow, OffsetRows.AreTypesNear, declared.checks.Checks.Checks, declared.table.Table.Table as TableOf}
+use Rattle.fb_rules.specs.declared.offset_row.Row.{Row}
+use Rattle.fb_verify.specs.{Stack.blank, Stack.opened, Stack.IsFrame, Stack.frame_work, declared.scratch.Frame.Frame}
 use Rattle.fb_rules.proofs.Words.{row_on}
 
 -- as many items were written as there were

@@ -3,26 +3,16 @@ use Rattle.std.proofs.Common.{◌≡◌, ℕ, ◌+◌, ◌-◌, ◌<◌, ◌≤�
 use Rattle.std.proofs.lemmas.Bool.{lt-ltb}
 use Rattle.fb_bytes.specs.Word.{Lent}
 use Rattle.fb_schema.specs.{Rows.Rows, Live.Live}
-use Rattle.fb_rules.specs.declared.{checks.Checks.Checks, table.Child.Child, fault.Reason.Reason, offset_row.Row.Row}
-use Rattle.fb_verify.specs.declared.scratch.Frame.{Frame}
-use Rattle.fb_rules.specs.declared.site.{Refusal.Refusal, Site.Site, Stop.Stop}
-use Rattle.fb_verify.specs.declared.stack.{Turn.Turn, Walk.Walk}
-use Rattle.fb_verify.specs.declared.stack.Turn.TheVariants.{Down, Up, Slowly, Halt as Halted}
-use Rattle.fb_rules.specs.{Bounds.Bounds, Bounds.AreAllowed, Fields.row, Fields.entries_of, Fields.entries_at, Fields.entries, Plain.tested_by, Plain.IsTested}
-use Rattle.fb_rules.specs.{Stops.reads_failure, Told.refused, Told.stopped}
-use Rattle.fb_verify.specs.StopsAt.{IsStopAt}
-use Rattle.fb_rules.specs.Cost.{slot_reads, present_reads, reads_at, own_reads}
-use Rattle.fb_rules.specs.OffsetRows.{words_of, IsRow, IsAskable, LeavesRow}
-use Rattle.fb_rules.specs.Order.{Failure, after, present_failure, failure_at, own_failure}
-use Rattle.fb_verify.specs.Stack.{blank, frame_work, work, Waiting, IsUnderWay, IsStopped}
-use Rattle.fb_verify.specs.Turns.{IsAtOpenField, GoesOn, StaysInField, PassedField, BeginsRow, RowTurned, FieldTurned}
-use Rattle.fb_rules.proofs.{Budgets.fewer_reads, Chains.after_none}
-use Rattle.fb_verify.proofs.Turning.{halts_on, goes_on, goes_down}
-use Rattle.fb_rules.proofs.Few.{own_few, present_few}
-use Rattle.fb_verify.proofs.{Frames.no_row, Walking.AtNext, Walking.askable, Walking.next_stops}
-use Rattle.fb_rules.proofs.{Plains.after_twice, Refusals.told_after, Refusals.told_first, Words.row_none}
-use Rattle.fb_verify.proofs.Passing.{slot_is_one, stop_is}
-use Rattle.fb_verify.proofs.Walking.{field_passed, field_work, field_skipped, skip_work}
+use Rattle.fb_rules.specs.{Bounds.Bounds, Bounds.AreAllowed, Fields.row, Fields.entries_of, Fields.entries_at, Fields.entries, Plain.tested_by, Plain.IsTested, Stops.reads_failure}
+use Rattle.fb_rules.specs.{Told.refused, Told.stopped, Cost.slot_reads, Cost.present_reads, Cost.reads_at, Cost.own_reads, OffsetRows.words_of, OffsetRows.IsRow, OffsetRows.IsAskable}
+use Rattle.fb_rules.specs.{OffsetRows.LeavesRow, Order.Failure, Order.after, Order.present_failure, Order.failure_at, Order.own_failure, declared.checks.Checks.Checks}
+use Rattle.fb_rules.specs.declared.{table.Child.Child, fault.Reason.Reason, offset_row.Row.Row, site.Refusal.Refusal, site.Site.Site, site.Stop.Stop}
+use Rattle.fb_verify.specs.{StopsAt.IsStopAt, Stack.blank, Stack.frame_work, Stack.work, Stack.Waiting, Stack.IsUnderWay, Stack.IsStopped}
+use Rattle.fb_verify.specs.{Turns.IsAtOpenField, Turns.GoesOn, Turns.StaysInField, Turns.PassedField, Turns.BeginsRow, Turns.RowTurned, Turns.FieldTurned, declared.scratch.Frame.Frame}
+use Rattle.fb_verify.specs.declared.stack.{Turn.Turn, Walk.Walk, Turn.TheVariants.Down, Turn.TheVariants.Up, Turn.TheVariants.Slowly, Turn.TheVariants.Halt as Halted}
+use Rattle.fb_rules.proofs.{Budgets.fewer_reads, Chains.after_none, Few.own_few, Few.present_few, Plains.after_twice, Refusals.told_after, Refusals.told_first, Words.row_none}
+use Rattle.fb_verify.proofs.{Turning.halts_on, Turning.goes_on, Turning.goes_down, Frames.no_row, Walking.AtNext, Walking.askable, Walking.next_stops, Walking.field_passed}
+use Rattle.fb_verify.proofs.{Walking.field_work, Walking.field_skipped, Walking.skip_work, Passing.slot_is_one, Passing.stop_is}
 
 module _ {w : Walk} {m : Lent} {under : Waiting} {waiting : ℕ} {top : Frame} {place : ℕ} {f : Live} (h : IsAtOpenField w m under waiting top place f) where
   abbrev b : List ℕ
@@ -108,10 +98,7 @@ unfolding work
 on_work S L below on top n q r paid = omega (arith, paid)
 
 -- Behind it, a turn through the row that was put is one into it.
-module _ (w mid then : Walk) (m q new : Lent) (under : Waiting) (waiting : ℕ) (top on past : Frame) (child : Child) (b : BeginsRow w mid m q under waiting top on) where
-  abbrev before : Lent
-  before = record m { count = m.count - 1 }
-
+module _ {w mid : Walk} (then : Walk) {m q : Lent} (new : Lent) {under : Waiting} {waiting : ℕ} {top on : Frame} (past : Frame) (child : Child) (b : BeginsRow w mid m q under waiting top on) where
   kept : mid ≡ record w { tables = mid.tables; deepest = mid.deepest }
   kept = rw b.same refl
 
@@ -119,13 +106,13 @@ module _ (w mid then : Walk) (m q new : Lent) (under : Waiting) (waiting : ℕ) 
   less = rw b.same (on_work w.schema.now w.limits under.frames on top w.tables q.count (m.count - 1) b.paid)
 
   stays : GoesOn mid then q new under on past → StaysInField w then m new under top past
-  stays e = record { on = goes_on w mid then before q new under kept b.bytes b.table less (omega (arith, e.grows, b.grows)) e; grows = omega (arith, e.grows, b.grows) }
+  stays e = record { on = goes_on kept b.bytes b.table less (omega (arith, e.grows, b.grows)) e; grows = omega (arith, e.grows, b.grows) }
 
   pub far_turned : (turn : Turn) → RowTurned mid then q new under on past child turn → FieldTurned w then m new under top past child turn
-  far_turned Down e = record { down = goes_down w mid then before q new under kept b.bytes b.table less (omega (arith, e.grows, b.grows)) e; grows = omega (arith, e.grows, b.grows) }
+  far_turned Down e = record { down = goes_down kept b.bytes b.table less (omega (arith, e.grows, b.grows)) e; grows = omega (arith, e.grows, b.grows) }
   far_turned Up e = record { on = stays e.on; rests = e.rests; next = e.next ∙ b.next }
   far_turned Slowly e = stays e
-  far_turned Halted e = halts_on w mid then m q new under kept b.bytes e
+  far_turned Halted e = halts_on kept b.bytes e
 
 -- The field's own tests hold.
 module _ {w : Walk} {m : Lent} {under : Waiting} {waiting : ℕ} {top : Frame} {place : ℕ} {f : Live} (h : IsAtOpenField w m under waiting top place f) (new : Lent) (at : ℕ) (result : Option Reason)

@@ -2,17 +2,12 @@
 use Rattle.std.proofs.Common.{◌≡◌, ℕ, ◌+◌, ◌-◌, ◌<◌, List, ◌∷◌, length, refl, sym, ◌∙◌, ap, subst, arith, Some, None}
 use Rattle.std.specs.Prelude.{slice_get}
 use Rattle.std.proofs.lemmas.List.{length-drop}
-use Rattle.fb_schema.specs.declared.kinds.Kind.{Kind}
-use Rattle.fb_schema.specs.{Rows.Rows, Live.Live, Live.live_fields, Served.IsServed}
-use Rattle.fb_rules.specs.declared.{checks.Checks.Checks}
+use Rattle.fb_schema.specs.{Rows.Rows, Live.Live, Live.live_fields, Served.IsServed, declared.kinds.Kind.Kind}
+use Rattle.fb_rules.specs.{Fields.IsPresent, Fields.IsField, Fields.Entry, Fields.entries_of, Fields.entries_at, Fields.entries, Places.field_place, Tree.elements_length, Way.Way}
+use Rattle.fb_rules.specs.{Links.element_of, Links.type_of, Links.element_link, OffsetRows.words_of, OffsetRows.IsTyped, declared.checks.Checks.Checks}
+use Rattle.fb_verify.specs.{Walked.IsInField, Stack.word_count, Stack.CountStands, Stack.TypeStands, Stack.frame_link, Stack.link_behind, Stack.IsFrame, Stack.IsLinked}
 use Rattle.fb_verify.specs.declared.scratch.Frame.{Frame}
-use Rattle.fb_rules.specs.Fields.{IsPresent, IsField, Entry, entries_of, entries_at, entries}
-use Rattle.fb_rules.specs.{Places.field_place, Tree.elements_length, Way.Way, Links.element_of, Links.type_of, Links.element_link}
-use Rattle.fb_rules.specs.OffsetRows.{words_of, IsTyped}
-use Rattle.fb_verify.specs.Walked.{IsInField}
-use Rattle.fb_verify.specs.Stack.{word_count, CountStands, TypeStands, frame_link, link_behind, IsFrame, IsLinked}
-use Rattle.fb_rules.proofs.Typed.{present, typed_before}
-use Rattle.fb_rules.proofs.Words.{row_length, union_row_length, row_words}
+use Rattle.fb_rules.proofs.{Typed.present, Typed.typed_before, Words.row_length, Words.union_row_length, Words.row_words}
 
 module _ (c : Checks) (b : List ℕ) (S : Rows) (fr : Frame) (w v : Way) (x : Entry) (h : IsInField c b S (fr.table).object (fr.table).at w fr.next fr.number (x ∷ words_of b S fr.row) v) where
   here : slice_get (live_fields S (fr.table).object) (fr.next - 1) ≡ Some h.field

@@ -1,37 +1,25 @@
 -- A walk goes on past fields that lead to no table, or stops at one.
 use Rattle.std.proofs.Common.{◌≡◌, ℕ, ◌+◌, ◌-◌, ◌^◌, ◌<◌, ◌≤◌, inl, inr, Bool, true, false, IsTrue, if◌then◌else◌, List, [], ◌∷◌, map, length, get_or, option_map, refl, sym, ◌∙◌, ap, subst, arith, Option, Some, None, zero, suc, ◌*◌, drop, length-drop}
 use Rattle.std.specs.{Prelude.slice_get, List.All, List.position_or_len}
-use Rattle.std.proofs.lemmas.{List.length-map, List.get_or-drop, Bool.Decides.nat_tests}
-use Rattle.std.proofs.lemmas.{List.Sums.passes_at_first, List.Sums.fails_before_first, List.Sums.sum_by-le, List.Elements.All-cons}
-use Rattle.std.proofs.lemmas.List.Sums.{sum_by-cons}
-use Rattle.std.proofs.lemmas.Option.{slice_get-get_or, slice_get-map, slice_get_within, get_or_from_slice_get}
-use Rattle.fb_bytes.specs.Word.{Lent}
-use Rattle.fb_schema.specs.declared.{views.Act.TheVariants.Other, views.Step.Step}
-use Rattle.fb_schema.specs.{Rows.Rows, Steps.act_of, Steps.step_of}
-use Rattle.fb_schema.specs.Live.{Live, live_fields, next_required, next_required_of}
+use Rattle.std.proofs.lemmas.{List.length-map, List.get_or-drop, Bool.Decides.nat_tests, List.Sums.passes_at_first, List.Sums.fails_before_first, List.Sums.sum_by-le, List.Sums.sum_by-cons}
+use Rattle.std.proofs.lemmas.{List.Elements.All-cons, Option.slice_get-get_or, Option.slice_get-map, Option.slice_get_within, Option.get_or_from_slice_get}
 use Rattle.std.proofs.{Math.Seq.drop-cons, Common.add-one}
-use Rattle.fb_rules.specs.declared.{checks.Checks.Checks, fault.Fault.Fault, fault.Reason.Reason, fault.Reason.TheVariants.MissingRequired}
-use Rattle.fb_rules.specs.declared.{offset_row.Row.Row, offset_row.Referent.TheVariants.Text as AText}
-use Rattle.fb_rules.specs.declared.{offset_row.Leads.TheVariants.All as AllTo, site.Refusal.Refusal, site.Site.Site, site.Stop.Stop}
-use Rattle.fb_verify.specs.declared.scratch.Frame.{Frame}
-use Rattle.fb_rules.specs.declared.plain.Came.{Came}
-use Rattle.fb_verify.specs.declared.stack.Walk.{Walk}
-use Rattle.fb_rules.specs.declared.plain.Came.TheVariants.{Past, ToEnd, ToField, ToFault}
-use Rattle.fb_rules.specs.{Bounds.Bounds, Bounds.AreAllowed, Places.vtable_size, Places.has_slot, Places.field_place}
-use Rattle.fb_rules.specs.{Cost.slot_reads, Cost.own_reads, OffsetRows.first_word, OffsetRows.past_first}
-use Rattle.fb_verify.specs.StopsAt.{IsStopAt}
-use Rattle.fb_rules.specs.{Stops.reads_failure, Stops.lead_reads_failure}
-use Rattle.fb_rules.specs.Told.{refused, stopped}
-use Rattle.fb_rules.specs.Fields.{to_string, entry, entries, row}
+use Rattle.fb_bytes.specs.Word.{Lent}
+use Rattle.fb_schema.specs.{Rows.Rows, Steps.act_of, Steps.step_of, Live.Live, Live.live_fields, Live.next_required, Live.next_required_of, declared.views.Act.TheVariants.Other}
+use Rattle.fb_schema.specs.declared.views.Step.{Step}
+use Rattle.fb_rules.specs.{Bounds.Bounds, Bounds.AreAllowed, Places.vtable_size, Places.has_slot, Places.field_place, Cost.slot_reads, Cost.own_reads, OffsetRows.first_word}
+use Rattle.fb_rules.specs.{OffsetRows.past_first, Stops.reads_failure, Stops.lead_reads_failure, Told.refused, Told.stopped, Fields.to_string, Fields.entry, Fields.entries, Fields.row}
 use Rattle.fb_rules.specs.Plain.{tested_by, plain_failure, plain_reads, StepsHold, steps_reads, StepTested, Stepped}
-use Rattle.fb_rules.specs.Order.{Failure, after, ◌▷◌, own_failure, element_failure}
-use Rattle.fb_verify.specs.Stack.{blank, frame_link, own_link, Origin, Waiting, IsUnderWay, IsWalking, IsAtField, IsStopped, Standing, StopsIn}
-use Rattle.fb_verify.specs.PassesOn.{StepsPass, IsBetween, HasRoom, EndsBehind, CameTo, fields_left}
-use Rattle.fb_rules.proofs.{Budgets.fewer_reads, Chains.after_none, Chains.both_none, Refusals.told_after, Refusals.told_first, Words.row_none}
-use Rattle.fb_verify.proofs.Walking.{field_stops, stops_in_field, goes_on, field_skipped}
-use Rattle.fb_rules.proofs.Few.{own_few, slot_few}
-use Rattle.fb_verify.proofs.Frames.{field_within, frame_passed, no_row}
+use Rattle.fb_rules.specs.{Order.Failure, Order.after, Order.◌▷◌, Order.own_failure, Order.element_failure, declared.checks.Checks.Checks, declared.fault.Fault.Fault}
+use Rattle.fb_rules.specs.declared.{fault.Reason.Reason, fault.Reason.TheVariants.MissingRequired, offset_row.Row.Row, offset_row.Referent.TheVariants.Text as AText}
+use Rattle.fb_rules.specs.declared.{offset_row.Leads.TheVariants.All as AllTo, site.Refusal.Refusal, site.Site.Site, site.Stop.Stop, plain.Came.Came}
+use Rattle.fb_rules.specs.declared.plain.Came.TheVariants.{Past, ToEnd, ToField, ToFault}
+use Rattle.fb_verify.specs.{StopsAt.IsStopAt, Stack.blank, Stack.frame_link, Stack.own_link, Stack.Origin, Stack.Waiting, Stack.IsUnderWay, Stack.IsWalking, Stack.IsAtField, Stack.IsStopped}
+use Rattle.fb_verify.specs.{Stack.Standing, Stack.StopsIn, PassesOn.StepsPass, PassesOn.IsBetween, PassesOn.HasRoom, PassesOn.EndsBehind, PassesOn.CameTo, PassesOn.fields_left}
+use Rattle.fb_verify.specs.declared.{scratch.Frame.Frame, stack.Walk.Walk}
+use Rattle.fb_rules.proofs.{Budgets.fewer_reads, Chains.after_none, Chains.both_none, Refusals.told_after, Refusals.told_first, Words.row_none, Few.own_few, Few.slot_few}
 use Rattle.fb_rules.proofs.Plains.{LeadsTo, step_at, comes, after_twice, plain_few}
+use Rattle.fb_verify.proofs.{Walking.field_stops, Walking.stops_in_field, Walking.goes_on, Walking.field_skipped, Frames.field_within, Frames.frame_passed, Frames.no_row}
 use Rattle.fb_verify.proofs.Standings.{at_rest, pass_more, pass_leaf, stop_at_element}
 
 -- Fields behind the end of a table's vtable, of which none is required: they are passed without a read.

@@ -1,13 +1,11 @@
 -- One more at the end of the elements of a field, and of the fields of a table.
 use Rattle.std.proofs.Common.{◌≡◌, ℕ, zero, suc, ◌+◌, ◌≤◌, max, List, [], ◌∷◌, ◌++◌, length, take, drop, refl, sym, ◌∙◌, ap, arith, Some}
-use Rattle.std.proofs.Math.Seq.{drop-nil}
-use Rattle.std.proofs.lemmas.List.{append-nil, take-append-drop, take_all as take_whole}
+use Rattle.std.proofs.{Math.Seq.drop-nil, lemmas.List.append-nil, lemmas.List.take-append-drop, lemmas.List.take_all as take_whole}
 use Rattle.std.specs.Prelude.{slice_get}
 use Rattle.fb_schema.specs.{Rows.Rows, Live.Live}
-use Rattle.fb_rules.specs.declared.checks.Checks.{Checks}
 use Rattle.fb_rules.specs.{Fields.IsField, Fields.Entry, Fields.entries, Unfolds.FieldsUnfold, Unfolds.ElementsUnfold, Unfolds.ElementUnfolds}
-use Rattle.fb_rules.specs.Tree.{Kids, no_kids, kid, Elements, no_elements, element, Element, kids_size, elements_size, element_size, kids_depth, elements_depth, element_depth, kids_length, elements_length}
-use Rattle.fb_rules.specs.Cost.{own_reads, lead_reads, kids_cost, elements_cost, element_cost}
+use Rattle.fb_rules.specs.Tree.{Kids, no_kids, kid, Elements, no_elements, element, Element, kids_size, elements_size, element_size, kids_depth, elements_depth, element_depth, kids_length}
+use Rattle.fb_rules.specs.{Tree.elements_length, Cost.own_reads, Cost.lead_reads, Cost.kids_cost, Cost.elements_cost, Cost.element_cost, declared.checks.Checks.Checks}
 
 unfoldable pub elements_push : Elements → Element → Elements
 elements_push no_elements y = element y no_elements

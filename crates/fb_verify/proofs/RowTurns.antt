@@ -2,21 +2,15 @@
 use Rattle.std.proofs.Common.{◌≡◌, ℕ, zero, suc, ◌+◌, ◌*◌, ◌%◌, ◌^◌, ◌<◌, ◌≤◌, true, max, List, [], ◌∷◌, ◌++◌, map, length, take, inl, inr, refl, sym, ◌∙◌, ap, arith, Some, None}
 use Rattle.std.proofs.lemmas.{Bool.cases_eq, List.length-append, List.take_all}
 use Rattle.fb_bytes.specs.Word.{Lent}
-use Rattle.fb_schema.specs.declared.views.Step.{Step}
-use Rattle.fb_schema.specs.{Rows.Rows, Live.live_fields, Steps.is_plain, Steps.step_of}
-use Rattle.fb_rules.specs.declared.{checks.Checks.Checks, table.Child.Child, fault.Reason.Reason, offset_row.Row.Row}
-use Rattle.fb_verify.specs.declared.scratch.Frame.{Frame}
+use Rattle.fb_schema.specs.{Rows.Rows, Live.live_fields, Steps.is_plain, Steps.step_of, declared.views.Step.Step}
+use Rattle.fb_rules.specs.{Bounds.AreAllowed, Cost.head_reads, OffsetRows.first_word, OffsetRows.past_first, Order.after, Order.element_failure, Places.is_aligned}
+use Rattle.fb_rules.specs.{Plain.StandsAt, Plain.tested_by, declared.checks.Checks.Checks, declared.table.Child.Child, declared.fault.Reason.Reason, declared.offset_row.Row.Row}
 use Rattle.fb_rules.specs.declared.site.{LastLink.TheVariants.Behind, LastLink.TheVariants.InField, Stop.Stop}
+use Rattle.fb_verify.specs.{StopsAt.IsStopAt, Flat.in_head, Flat.frame_at, Flat.MayPass, Flat.PassesFlat, Stack.Waiting, Stack.IsAtTable, Stack.IsWalking, Stack.HaltsIn, Stack.links_left}
+use Rattle.fb_verify.specs.{Turns.IsShort, Turns.IsAtChild, Turns.GoesDown, Turns.GoesOn, Turns.Halts, Turns.RowStands, Turns.deepest_with, Turns.with_tables, declared.scratch.Frame.Frame}
 use Rattle.fb_verify.specs.declared.stack.Walk.{Walk}
-use Rattle.fb_rules.specs.{Bounds.AreAllowed, Cost.head_reads, OffsetRows.first_word, OffsetRows.past_first, Order.after, Order.element_failure}
-use Rattle.fb_rules.specs.{Places.is_aligned, Plain.StandsAt, Plain.tested_by}
-use Rattle.fb_verify.specs.StopsAt.{IsStopAt}
-use Rattle.fb_verify.specs.Flat.{in_head, frame_at, MayPass, PassesFlat}
-use Rattle.fb_verify.specs.Stack.{Waiting, IsAtTable, IsWalking, HaltsIn, links_left}
-use Rattle.fb_verify.specs.Turns.{IsShort, IsAtChild, GoesDown, GoesOn, Halts, RowStands, deepest_with, with_tables}
 use Rattle.fb_rules.proofs.{Budgets.fewer_reads, Few.first_few, Few.head_few}
-use Rattle.fb_verify.proofs.{Turns.words_work, Flats.flat_work, Flats.word_fails}
-use Rattle.fb_verify.proofs.Turns.{at_child, down_falls, halts_behind}
+use Rattle.fb_verify.proofs.{Turns.words_work, Turns.at_child, Turns.down_falls, Turns.halts_behind, Flats.flat_work, Flats.word_fails}
 
 pub two : (m : ℕ) → m + 2 ≡ m + 1 + 1
 two m = omega arith
@@ -30,6 +24,9 @@ stays w m under top h short = record { same = refl; walking = h; table = refl; f
 pub word_stands : {c : Checks} {b : List ℕ} {row : Row} → RowStands c b row → 0 < row.left → StandsAt c b row.place
 word_stands h more = record { near = omega (arith, h.near); within = omega (arith, h.within, more); aligned = h.aligned }
 
+pub fewer_left : (row past : Row) → past ≡ past_first row → 0 < row.left → past.left < row.left
+fewer_left row past same more = omega (arith, ap (λ (x : Row). x.left) same)
+
 next_word : (p : ℕ) → (p + 4) % 4 ≡ p % 4
 next_word p = omega arith
 
@@ -41,10 +38,6 @@ next_stands {row = row} h more is = rw is (record { near = omega (arith, h.near,
 
 pub none_with : (w : Walk) (links n : ℕ) → n ≡ 0 → with_tables w links n ≡ w
 none_with w links n e = rw e (ap (λ t. record w { tables = t }) (omega arith))
-
-pub deepest_some : (d links n : ℕ) → 0 < n → deepest_with d links n ≡ max d links
-deepest_some d links zero h = absurd (omega arith)
-deepest_some d links (suc n) h = refl
 
 deeper : (d links n m : ℕ) → m ≡ n + 1 → deepest_with d links m ≡ max (deepest_with d links n) links
 deeper d links n zero e = absurd (omega arith)

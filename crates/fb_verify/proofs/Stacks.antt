@@ -1,9 +1,8 @@
 -- A stack in a row of frames: what is pushed onto it and popped off it.
 use Rattle.std.proofs.Common.{◌≡◌, ℕ, ◌+◌, ◌-◌, ◌≤◌, ◌<◌, List, [], ◌∷◌, ◌++◌, length, take, get_or, sym, ◌∙◌, ap, arith}
 use Rattle.std.proofs.Math.ListN.{set, length-set, get_or-append}
+use Rattle.std.proofs.lemmas.List.{take_more, take_more_set, take-set, take-append-le, get_or-set_same, get_or-append-add, Sums.sum_by_push}
 use Rattle.std.specs.List.{sum_by}
-use Rattle.std.proofs.lemmas.List.{take_more, take_more_set, take-set, take-append-le, get_or-set_same, get_or-append-add}
-use Rattle.std.proofs.lemmas.List.Sums.{sum_by_push}
 
 -- the last of the first m
 module _ {X : Type 0} (xs : List X) (m : ℕ) (d : X) (some : 0 < m) (room : m ≤ length xs) where

@@ -3,20 +3,15 @@ use Rattle.std.proofs.Common.{◌≡◌, ℕ, ◌+◌, max, ◌<◌, ◌≤◌, 
 use Rattle.std.specs.{Prelude.slice_get, List.All}
 use Rattle.std.proofs.lemmas.List.Elements.{All-nil, All-cons, All-head, All-tail}
 use Rattle.fb_schema.specs.{Rows.Rows, Live.Live, Live.live_fields, Served.IsServed}
-use Rattle.fb_rules.specs.declared.{checks.Checks.Checks, fault.Fault.Fault, table.Table.Table, offset_row.Row.Row}
-use Rattle.fb_verify.specs.declared.scratch.Frame.{Frame}
-use Rattle.fb_rules.specs.declared.{site.Site.Site, link.Link.Link}
-use Rattle.fb_rules.specs.{Bounds.Bounds, Bounds.AreAllowed, Places.target, Fields.Lead, Fields.to_table, Fields.entries}
-use Rattle.fb_rules.specs.{Tree.leaf, Tree.element_size, Tree.element_depth, Unfolds.ElementUnfolds, Laws.IsLead, Way.Way, Way.way_to_table}
-use Rattle.fb_rules.specs.{Links.LeadsAlong, Told.told, Told.way_at}
-use Rattle.fb_rules.specs.Cost.{head_reads, own_reads, lead_reads, element_cost}
-use Rattle.fb_rules.specs.Order.{Failure, ◌▷◌, head_failure, own_failure, element_failure}
+use Rattle.fb_rules.specs.{Bounds.Bounds, Bounds.AreAllowed, Places.target, Fields.Lead, Fields.to_table, Fields.entries, Tree.leaf, Tree.element_size, Tree.element_depth}
+use Rattle.fb_rules.specs.{Unfolds.ElementUnfolds, Laws.IsLead, Way.Way, Way.way_to_table, Links.LeadsAlong, Told.told, Told.way_at}
+use Rattle.fb_rules.specs.{Cost.head_reads, Cost.own_reads, Cost.lead_reads, Cost.element_cost, Order.Failure, Order.◌▷◌, Order.head_failure, Order.own_failure, Order.element_failure}
 use Rattle.fb_rules.specs.Stops.{in_head, in_element, fault_of, budget_failure, reads_failure, lead_reads_failure, fault_at}
-use Rattle.fb_rules.specs.OffsetRows.{words_of, first_word, past_first, IsLeafLead}
-use Rattle.fb_verify.specs.Walked.{ended, TableWalked, IsInside, IsInField, Waits}
-use Rattle.fb_verify.specs.Stack.{opened as opened_frame, reached, Resting, Middle, Goes, Context, Origin, Standing, frame_link, IsFrame, IsLinked}
-use Rattle.fb_rules.proofs.{Budgets.fewer_reads, Chains.head_none, Chains.own_none, Chains.element_none}
-use Rattle.fb_rules.proofs.Words.{row_front, row_none, first_place}
+use Rattle.fb_rules.specs.{OffsetRows.words_of, OffsetRows.first_word, OffsetRows.past_first, OffsetRows.IsLeafLead, declared.checks.Checks.Checks, declared.fault.Fault.Fault}
+use Rattle.fb_rules.specs.declared.{table.Table.Table, offset_row.Row.Row, site.Site.Site, link.Link.Link}
+use Rattle.fb_verify.specs.{Walked.ended, Walked.TableWalked, Walked.IsInside, Walked.IsInField, Walked.Waits, Stack.opened as opened_frame, Stack.reached, Stack.Resting, Stack.Middle}
+use Rattle.fb_verify.specs.{Stack.Goes, Stack.Context, Stack.Origin, Stack.Standing, Stack.frame_link, Stack.IsFrame, Stack.IsLinked, declared.scratch.Frame.Frame}
+use Rattle.fb_rules.proofs.{Budgets.fewer_reads, Chains.head_none, Chains.own_none, Chains.element_none, Words.row_front, Words.row_none, Words.first_place}
 use Rattle.fb_verify.proofs.Linked.{linked_by, is_linked}
 use Rattle.fb_verify.proofs.Steps.{same_way, field_deep, opened, entered, passed_on, field_done, closed, stops_at_head, stops_at_element, stops_below}
 

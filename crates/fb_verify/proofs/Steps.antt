@@ -2,17 +2,16 @@
 use Rattle.std.proofs.Common.{◌≡◌, ℕ, suc, ◌+◌, ◌≤◌, List, [], ◌∷◌, length, take, refl, sym, ◌∙◌, ap, subst, arith, Some, None}
 use Rattle.std.specs.Prelude.{slice_get}
 use Rattle.fb_schema.specs.{Rows.Rows, Live.Live, Live.live_fields}
-use Rattle.fb_rules.specs.declared.{checks.Checks.Checks, fault.Fault.Fault, link.Link.Link}
-use Rattle.fb_rules.specs.{Bounds.Bounds, Places.target, Facts.IsTable}
-use Rattle.fb_rules.specs.Fields.{IsField, to_table, Entry, entries}
-use Rattle.fb_rules.specs.Tree.{node, no_kids, no_elements, Element, table, size, kids_size, elements_size, element_size, depth, kids_depth, elements_depth, element_depth, kids_length, elements_length}
+use Rattle.fb_rules.specs.{Bounds.Bounds, Places.target, Facts.IsTable, Fields.IsField, Fields.to_table, Fields.Entry, Fields.entries, Tree.node, Tree.no_kids, Tree.no_elements}
+use Rattle.fb_rules.specs.Tree.{Element, table, size, kids_size, elements_size, element_size, depth, kids_depth, elements_depth, element_depth, kids_length, elements_length}
 use Rattle.fb_rules.specs.Unfolds.{Unfolds, FieldsUnfold, ElementsUnfold, ElementUnfolds}
-use Rattle.fb_rules.specs.Cost.{own_reads, lead_reads, tree_cost, kids_cost, elements_cost, element_cost}
-use Rattle.fb_rules.specs.Way.{Way, paying, opening, passing}
+use Rattle.fb_rules.specs.{Cost.own_reads, Cost.lead_reads, Cost.tree_cost, Cost.kids_cost, Cost.elements_cost, Cost.element_cost, Way.Way, Way.paying, Way.opening, Way.passing}
 use Rattle.fb_rules.specs.Stops.{in_head, in_field, in_element, IsFalseAt, at_head, at_field, at_own, at_element, at_lead, through, IsTrail, ElementTrail, IsElementTrail}
 use Rattle.fb_rules.specs.Links.{field_link, element_link, object_led_to, links_of, links_in_field, links_in_element, LeadsAlong}
+use Rattle.fb_rules.specs.declared.{checks.Checks.Checks, fault.Fault.Fault, link.Link.Link}
 use Rattle.fb_verify.specs.Walked.{at_number, TableWalked, IsInside, IsInField, Waits}
-use Rattle.fb_verify.proofs.Pushes.{elements_push, kids_push, elements_pushed, kids_pushed, front_of, rest_of, all_of, take_all, ElementsUnfold-push, elements_cost-push, FieldsUnfold-push, kids_cost-push}
+use Rattle.fb_verify.proofs.Pushes.{elements_push, kids_push, elements_pushed, kids_pushed, front_of, rest_of, all_of, take_all, ElementsUnfold-push, elements_cost-push, FieldsUnfold-push}
+use Rattle.fb_verify.proofs.Pushes.{kids_cost-push}
 
 -- two ways are one where their parts are
 pub same_way : (v w : Way) → v.links ≡ w.links → v.passed ≡ w.passed → v.deepest ≡ w.deepest → v.paid ≡ w.paid → v.leading ≡ w.leading → v.object ≡ w.object → v.field ≡ w.field → v ≡ w

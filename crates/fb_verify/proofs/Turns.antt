@@ -1,28 +1,18 @@
 -- The walk stands at a uoffset that leads to a table, which it counts, and goes on in that table.
 use Rattle.std.proofs.Common.{◌≡◌, ℕ, ◌+◌, ◌*◌, ◌<◌, max, List, [], ◌∷◌, ◌++◌, length, take, refl, sym, ◌∙◌, ap, arith, Some, ◌≤◌, inl, None}
-use Rattle.std.proofs.Math.Seq.{take-append_seam}
-use Rattle.std.proofs.lemmas.{List.length-append, List.Sums.sum_by_push, List.Elements.All-push}
+use Rattle.std.proofs.{Math.Seq.take-append_seam, lemmas.List.length-append, lemmas.List.Sums.sum_by_push, lemmas.List.Elements.All-push}
 use Rattle.fb_bytes.specs.Word.{Lent}
 use Rattle.fb_schema.specs.{Rows.Rows, Live.live_fields}
+use Rattle.fb_rules.specs.{Bounds.AreAllowed, Bounds.Bounds, Cost.head_reads, Cost.lead_reads, OffsetRows.past_first, OffsetRows.first_word, OffsetRows.words_of, Way.way_to_table, Way.Way}
+use Rattle.fb_rules.specs.{Told.way_at, Told.stopped, Told.told, Told.IsHead, Stops.budget_failure, Stops.reads_failure, Stops.in_head, Stops.fault_at, Order.◌▷◌, Order.head_failure}
 use Rattle.fb_rules.specs.declared.{table.Child.Child, table.Table.Table, offset_row.Row.Row}
-use Rattle.fb_verify.specs.declared.scratch.Frame.{Frame}
-use Rattle.fb_rules.specs.declared.{site.LastLink.TheVariants.Behind, site.LastLink.TheVariants.InField, site.Site.Site, site.Stop.Stop}
-use Rattle.fb_rules.specs.declared.{checks.Checks.Checks, fault.Fault.Fault}
-use Rattle.fb_verify.specs.declared.stack.Walk.{Walk}
-use Rattle.fb_rules.specs.{Bounds.AreAllowed, Bounds.Bounds, Cost.head_reads, Cost.lead_reads}
-use Rattle.fb_rules.specs.OffsetRows.{past_first, first_word, words_of}
+use Rattle.fb_rules.specs.declared.{site.LastLink.TheVariants.Behind, site.LastLink.TheVariants.InField, site.Site.Site, site.Stop.Stop, checks.Checks.Checks, fault.Fault.Fault}
 use Rattle.fb_verify.specs.{Turns.IsAtChild, Turns.Halts, Turns.frame_of, Units.LeadsToTable}
-use Rattle.fb_rules.specs.Way.{way_to_table, Way}
-use Rattle.fb_rules.specs.Told.{way_at, stopped, told, IsHead}
 use Rattle.fb_verify.specs.Stack.{Standing, Origin, Waiting, IsAtTable, IsStopped, IsWalking, StopsIn, frame_work, work, opened, IsUnderWay, IsFrame, reached, frame_link}
-use Rattle.fb_rules.specs.Stops.{budget_failure, reads_failure, in_head, fault_at}
-use Rattle.fb_rules.specs.Order.{◌▷◌, head_failure}
-use Rattle.fb_rules.proofs.Budgets.{fewer_reads}
-use Rattle.fb_verify.proofs.{Flats.head_fails, Pushes.take_all, Standings.context_push, Linked.linked_by}
-use Rattle.fb_verify.proofs.{Steps.same_way, Steps.stops_at_head, Steps.stops_below, Walking.stops_behind}
-use Rattle.fb_rules.proofs.Few.{first_few, head_few}
-use Rattle.fb_verify.proofs.Frames.{frame_on, frame_opened, work_opened}
-use Rattle.fb_verify.proofs.Standings.{told_is, fresh, links_is, waits_for, stop}
+use Rattle.fb_verify.specs.declared.{scratch.Frame.Frame, stack.Walk.Walk}
+use Rattle.fb_rules.proofs.{Budgets.fewer_reads, Few.first_few, Few.head_few}
+use Rattle.fb_verify.proofs.{Flats.head_fails, Pushes.take_all, Standings.context_push, Standings.told_is, Standings.fresh, Standings.links_is, Standings.waits_for, Standings.stop}
+use Rattle.fb_verify.proofs.{Linked.linked_by, Steps.same_way, Steps.stops_at_head, Steps.stops_below, Walking.stops_behind, Frames.frame_on, Frames.frame_opened, Frames.work_opened}
 
 -- Offset words that were passed leave less work.
 module _ (S : Rows) (L : Bounds) (below : List Frame) (old new : Frame) (n r q : ℕ) (same : new ≡ record old { row = new.row }) (paid : q + 4 * (new.row).left ≤ r + 4 * (old.row).left) where

@@ -3,18 +3,13 @@ use Rattle.std.proofs.Common.{◌≡◌, ℕ, ◌+◌, ◌^◌, ◌<◌, ◌≤�
 use Rattle.std.proofs.lemmas.List.Elements.{All-nil}
 use Rattle.fb_bytes.specs.Word.{Lent}
 use Rattle.fb_schema.specs.Rows.{is_table}
-use Rattle.fb_rules.specs.declared.{start.Ident.Ident, fault.Fault.Fault, fault.Report.Report, site.LastLink.LastLink, site.LastLink.TheVariants.Behind, site.Site.Site, site.Stop.Stop, link.Link.Link}
-use Rattle.fb_verify.specs.declared.scratch.Frame.{Frame}
-use Rattle.fb_rules.specs.{Bounds.AreAllowed, Question.Question, Places.target, Tree.size, Tree.depth, Cost.tree_cost}
-use Rattle.fb_rules.specs.{WellFormed.base, WellFormed.start_reads, Way.way_to_start, Way.way_to_root, Links.LeadsAlong, Links.StopsAlong}
-use Rattle.fb_rules.specs.{Told.told, Told.stopped, Told.way_at, Told.IsAskedAt, MostReads.most_reads}
-use Rattle.fb_verify.specs.Sealed.{Sealed, IsUnfolded, asked_of}
-use Rattle.fb_rules.specs.Bounds.{Bounds}
-use Rattle.fb_verify.specs.{Walked.TableWalked, Walked.ended, Stack.HaltsAlong, Stack.IsLinked, Stack.StopsIn, Stack.frame_link, Stack.last_link}
-use Rattle.fb_rules.specs.{Verdict.Reports, Verdict.HasNone, Stops.reads_failure, Stops.fault_at, Stops.Stops}
-use Rattle.fb_rules.specs.Order.{◌▷◌, start_failure}
-use Rattle.fb_rules.proofs.{Budgets.fewer_reads, Budgets.no_reads, Chains.start_none, Overruns.stops_nowhere}
-use Rattle.fb_rules.proofs.Price.{cost_is_bounded, reads_are_bounded}
+use Rattle.fb_rules.specs.{Bounds.AreAllowed, Bounds.Bounds, Question.Question, Places.target, Tree.size, Tree.depth, Cost.tree_cost, WellFormed.base, WellFormed.start_reads}
+use Rattle.fb_rules.specs.{Way.way_to_start, Way.way_to_root, Links.LeadsAlong, Links.StopsAlong, Told.told, Told.stopped, Told.way_at, Told.IsAskedAt, MostReads.most_reads}
+use Rattle.fb_rules.specs.{Verdict.Reports, Verdict.HasNone, Stops.reads_failure, Stops.fault_at, Stops.Stops, Order.◌▷◌, Order.start_failure, declared.start.Ident.Ident}
+use Rattle.fb_rules.specs.declared.{fault.Fault.Fault, fault.Report.Report, site.LastLink.LastLink, site.LastLink.TheVariants.Behind, site.Site.Site, site.Stop.Stop, link.Link.Link}
+use Rattle.fb_verify.specs.{Sealed.Sealed, Sealed.IsUnfolded, Sealed.asked_of, Walked.TableWalked, Walked.ended}
+use Rattle.fb_verify.specs.{Stack.HaltsAlong, Stack.IsLinked, Stack.StopsIn, Stack.frame_link, Stack.last_link, declared.scratch.Frame.Frame}
+use Rattle.fb_rules.proofs.{Budgets.fewer_reads, Budgets.no_reads, Chains.start_none, Overruns.stops_nowhere, Price.cost_is_bounded, Price.reads_are_bounded}
 use Rattle.fb_verify.proofs.{Steps.same_way, Standings.told_is}
 
 module _ (q : Question) (b : List ℕ) where

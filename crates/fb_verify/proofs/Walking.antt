@@ -1,30 +1,20 @@
 -- The steps of a walk under way, with the work that they leave.
 use Rattle.std.proofs.Common.{◌≡◌, ℕ, ◌+◌, ◌<◌, ◌≤◌, inl, inr, refl, List, [], ◌∷◌, ◌++◌, length, sym, ap, arith, Some, None, map, ◌∙◌, subst, Option, Result, Ok, Err, true}
 use Rattle.std.specs.{Prelude.slice_get, List.All, Result.IsErrAnd}
-use Rattle.std.proofs.lemmas.{List.Elements.All-push, List.Elements.All-pop}
-use Rattle.std.proofs.lemmas.List.{length-append, map-append, append-nil}
+use Rattle.std.proofs.lemmas.List.{Elements.All-push, Elements.All-pop, length-append, map-append, append-nil}
 use Rattle.fb_bytes.specs.Word.{Lent}
 use Rattle.fb_schema.specs.{Rows.Rows, Live.Live, Live.live_fields}
-use Rattle.fb_rules.specs.declared.{checks.Checks.Checks, offset_row.Row.Row, fault.Fault.Fault}
-use Rattle.fb_verify.specs.declared.scratch.Frame.{Frame}
-use Rattle.fb_rules.specs.declared.{link.Link.Link, site.Site.Site}
-use Rattle.fb_verify.specs.declared.stack.Walk.{Walk}
-use Rattle.fb_rules.specs.{Bounds.Bounds, Bounds.AreAllowed, Fields.entries}
-use Rattle.fb_rules.specs.Cost.{own_reads, lead_reads}
-use Rattle.fb_verify.specs.Walked.{ended}
-use Rattle.fb_rules.specs.Links.{field_link, LeadsAlong}
-use Rattle.fb_verify.specs.{PassesOn.HasPassed, Stack.work, Units.PassesFields}
-use Rattle.fb_rules.specs.Told.{told}
-use Rattle.fb_rules.specs.Order.{own_failure, element_failure, Failure, ◌▷◌}
-use Rattle.fb_rules.specs.OffsetRows.{words_of, first_word, past_first, IsLeafLead, IsRow, IsAskable}
-use Rattle.fb_verify.specs.Stack.{IsFrame, frame_work, reached, Origin, IsUnderWay, Standing, frame_link, link_to_number, own_link, IsLinked, StopsIn, blank, Waiting, IsWalking, IsStopped}
-use Rattle.fb_rules.specs.Stops.{reads_failure, lead_reads_failure, in_field, fault_at}
-use Rattle.fb_rules.proofs.Few.{first_few, own_few}
+use Rattle.fb_rules.specs.{Bounds.Bounds, Bounds.AreAllowed, Fields.entries, Cost.own_reads, Cost.lead_reads, Links.field_link, Links.LeadsAlong, Told.told}
+use Rattle.fb_rules.specs.{Order.own_failure, Order.element_failure, Order.Failure, Order.◌▷◌, OffsetRows.words_of, OffsetRows.first_word, OffsetRows.past_first, OffsetRows.IsLeafLead}
+use Rattle.fb_rules.specs.{OffsetRows.IsRow, OffsetRows.IsAskable, Stops.reads_failure, Stops.lead_reads_failure, Stops.in_field, Stops.fault_at, declared.checks.Checks.Checks}
+use Rattle.fb_rules.specs.declared.{offset_row.Row.Row, fault.Fault.Fault, link.Link.Link, site.Site.Site}
+use Rattle.fb_verify.specs.{Walked.ended, PassesOn.HasPassed, Stack.work, Stack.IsFrame, Stack.frame_work, Stack.reached, Stack.Origin, Stack.IsUnderWay, Stack.Standing, Stack.frame_link}
+use Rattle.fb_verify.specs.{Stack.link_to_number, Stack.own_link, Stack.IsLinked, Stack.StopsIn, Stack.blank, Stack.Waiting, Stack.IsWalking, Stack.IsStopped, Units.PassesFields}
+use Rattle.fb_verify.specs.declared.{scratch.Frame.Frame, stack.Walk.Walk}
+use Rattle.fb_rules.proofs.{Few.first_few, Few.own_few, Budgets.fewer_reads, Typed.typed_before, Words.row_none}
 use Rattle.fb_verify.proofs.Frames.{field_within, frame_on, frame_passed, no_row}
-use Rattle.fb_verify.proofs.{Standings.context_pop, Standings.context_linked, Linked.is_linked}
-use Rattle.fb_rules.proofs.{Budgets.fewer_reads, Typed.typed_before, Words.row_none}
-use Rattle.fb_verify.proofs.Steps.{resumed, stops_at_field as stops_at_test}
-use Rattle.fb_verify.proofs.Standings.{at_rest, goes_way, pass_leaf, pass_more, close, told_is, in_middle, stop, stop_at_element}
+use Rattle.fb_verify.proofs.Standings.{context_pop, context_linked, at_rest, goes_way, pass_leaf, pass_more, close, told_is, in_middle, stop, stop_at_element}
+use Rattle.fb_verify.proofs.{Linked.is_linked, Steps.resumed, Steps.stops_at_field as stops_at_test}
 
 module _ {c : Checks} {b : List ℕ} {S : Rows} {L : Bounds} {s : Origin} {below : List Frame} {top : Frame} {n d r : ℕ} (h : IsUnderWay c b S L s below top n d r) where
   -- the top, past its next field

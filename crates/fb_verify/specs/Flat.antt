@@ -1,15 +1,11 @@
 -- What it takes to pass a table whose fields lead to no table, and what that leaves.
 use Rattle.std.specs.Prelude.{◌≡◌, ℕ, ◌+◌, ◌*◌, ◌^◌, ◌<◌, ◌≤◌, true, List, [], ◌∷◌, ◌++◌, Option, None, IfSome, length, map}
 use Rattle.fb_bytes.specs.Word.{Lent}
-use Rattle.fb_schema.specs.declared.views.Step.{Step}
-use Rattle.fb_schema.specs.{Rows.Rows, Live.live_fields, Steps.is_plain, Steps.step_of}
-use Rattle.fb_rules.specs.declared.{checks.Checks.Checks, fault.Reason.Reason, table.Table.Table, site.Stop.Stop}
-use Rattle.fb_verify.specs.declared.scratch.Frame.{Frame}
+use Rattle.fb_schema.specs.{Rows.Rows, Live.live_fields, Steps.is_plain, Steps.step_of, declared.views.Step.Step}
+use Rattle.fb_rules.specs.{Bounds.AreAllowed, Cost.head_reads, Order.after, Order.head_failure, Plain.tested_by, Told.stopped, Told.IsHead, declared.checks.Checks.Checks}
+use Rattle.fb_rules.specs.declared.{fault.Reason.Reason, table.Table.Table, site.Stop.Stop}
+use Rattle.fb_verify.specs.{StopsAt.IsStopAt, Stack.blank, Stack.opened, Stack.own_link, Stack.Waiting, Stack.IsUnderWay, Stack.IsWalking, Stack.StopsIn, declared.scratch.Frame.Frame}
 use Rattle.fb_verify.specs.declared.stack.Walk.{Walk}
-use Rattle.fb_rules.specs.{Bounds.AreAllowed, Cost.head_reads, Order.after, Order.head_failure, Plain.tested_by}
-use Rattle.fb_verify.specs.StopsAt.{IsStopAt}
-use Rattle.fb_rules.specs.Told.{stopped, IsHead}
-use Rattle.fb_verify.specs.Stack.{blank, opened, own_link, Waiting, IsUnderWay, IsWalking, StopsIn}
 
 -- a walk under way, and what is below its top
 pub record Going : Type 0 where

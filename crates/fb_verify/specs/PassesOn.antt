@@ -1,14 +1,10 @@
 -- What it takes to pass fields of the top of a walk, and what that leaves.
 use Rattle.std.specs.Prelude.{◌≡◌, ℕ, ◌+◌, ◌-◌, ◌*◌, ◌^◌, ◌<◌, ◌≤◌, Bool, true, false, Result, List, length, map, drop, slice_get, Some, Ok, Err}
-use Rattle.fb_schema.specs.{Rows.Rows, Live.Live, Live.live_fields, Steps.act_of, Steps.step_of}
-use Rattle.fb_schema.specs.declared.{views.Act.TheVariants.Other, views.Step.Step}
+use Rattle.fb_schema.specs.{Rows.Rows, Live.Live, Live.live_fields, Steps.act_of, Steps.step_of, declared.views.Act.TheVariants.Other, declared.views.Step.Step}
 use Rattle.fb_bytes.specs.Word.{Lent}
-use Rattle.fb_rules.specs.declared.{fault.Reason.Reason, plain.Came.Came, site.Stop.Stop}
-use Rattle.fb_verify.specs.declared.{scratch.Frame.Frame, stack.Walk.Walk}
-use Rattle.fb_rules.specs.declared.plain.Came.TheVariants.{Past, ToEnd, ToField, ToFault}
-use Rattle.fb_rules.specs.{Bounds.AreAllowed, Places.vtable_size, Plain.StepsHold, Plain.steps_reads, Told.stopped}
-use Rattle.fb_verify.specs.StopsAt.{IsStopAt}
-use Rattle.fb_verify.specs.Stack.{Waiting, frame_work, IsWalking, IsAtField, IsStopped}
+use Rattle.fb_rules.specs.{Bounds.AreAllowed, Places.vtable_size, Plain.StepsHold, Plain.steps_reads, Told.stopped, declared.fault.Reason.Reason, declared.plain.Came.Came}
+use Rattle.fb_rules.specs.declared.{plain.Came.TheVariants.Past, plain.Came.TheVariants.ToEnd, plain.Came.TheVariants.ToField, plain.Came.TheVariants.ToFault, site.Stop.Stop}
+use Rattle.fb_verify.specs.{StopsAt.IsStopAt, Stack.Waiting, Stack.frame_work, Stack.IsWalking, Stack.IsAtField, Stack.IsStopped, declared.scratch.Frame.Frame, declared.stack.Walk.Walk}
 
 -- a walk between two fields of the top
 pub record IsBetween (w : Walk) (m : Lent) (under : Waiting) (top : Frame) : Type 0 where

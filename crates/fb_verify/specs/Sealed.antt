@@ -1,9 +1,8 @@
 -- A buffer that was verified, as contracts see it.
 use Rattle.std.specs.Prelude.{◌≡◌, ℕ, ◌<◌, ◌^◌, List, length, IsTrue}
 use Rattle.fb_schema.specs.Rows.{Rows, is_table}
-use Rattle.fb_rules.specs.declared.{checks.Checks.Checks, start.Start.Start, start.Ident.Ident, fault.Report.Report}
-use Rattle.fb_rules.specs.{Bounds.Bounds, Question.Question, Question.question, Tree.Tree, Tree.size, Tree.depth}
-use Rattle.fb_rules.specs.WellFormed.{IsWellFormed, cost}
+use Rattle.fb_rules.specs.{Bounds.Bounds, Question.Question, Question.question, Tree.Tree, Tree.size, Tree.depth, WellFormed.IsWellFormed, WellFormed.cost, declared.checks.Checks.Checks}
+use Rattle.fb_rules.specs.declared.{start.Start.Start, start.Ident.Ident, fault.Report.Report}
 
 -- the bytes, the rows of the schema, and what was asked and answered
 pub record Sealed : Type 0 where

@@ -1,21 +1,15 @@
 -- The frames of a walk: what they say of the walk so far, and the work that is left to it.
 use Rattle.std.specs.Prelude.{◌≡◌, ℕ, ◌+◌, ◌-◌, ◌*◌, ◌^◌, ◌<◌, ◌≤◌, ◌⊎◌, IsTrue, List, [], ◌∷◌, ◌++◌, length, map, Option, Some, None, slice_get}
 use Rattle.std.specs.List.{All, sum_by}
-use Rattle.fb_schema.specs.declared.kinds.Kind.{Kind}
+use Rattle.fb_schema.specs.{Rows.Rows, Rows.is_table, Live.Live, Live.live_fields, Served.IsServed, declared.kinds.Kind.Kind}
 use Rattle.fb_schema.specs.declared.kinds.Kind.TheVariants.{Union, Texts, Tables, Unions}
-use Rattle.fb_schema.specs.{Rows.Rows, Rows.is_table, Live.Live, Live.live_fields, Served.IsServed}
 use Rattle.fb_bytes.specs.Word.{Lent, word}
-use Rattle.fb_rules.specs.declared.{checks.Checks.Checks, fault.Fault.Fault, offset_row.Referent.TheVariants.Nothing}
-use Rattle.fb_rules.specs.declared.{offset_row.Leads.TheVariants.All as AllTo, site.Halt.Halt, site.LastLink.LastLink}
-use Rattle.fb_verify.specs.declared.scratch.Frame.{Frame}
-use Rattle.fb_rules.specs.declared.{site.LastLink.TheVariants.Behind, site.LastLink.TheVariants.InField, table.Child.Child, table.Table.Table}
-use Rattle.fb_rules.specs.declared.link.Link.{Link}
-use Rattle.fb_verify.specs.declared.stack.Walk.{Walk}
-use Rattle.fb_rules.specs.{Bounds.Bounds, Bounds.AreAllowed, Question.Question, Places.target, Places.has_slot, Places.field_place, Cost.lead_reads}
-use Rattle.fb_rules.specs.{Order.element_failure, Way.Way, Told.IsHead, Told.stopped, Links.element_link, Links.LeadsAlong, Links.StopsAlong}
-use Rattle.fb_rules.specs.Fields.{IsField, to_table, entries, type_place, type_count}
-use Rattle.fb_rules.specs.OffsetRows.{words_of, first_word, IsRow, IsTyped, TypeFits, TypesFit}
-use Rattle.fb_verify.specs.Walked.{ended, TableWalked, IsInside, IsInField, Waits}
+use Rattle.fb_rules.specs.{Bounds.Bounds, Bounds.AreAllowed, Question.Question, Places.target, Places.has_slot, Places.field_place, Cost.lead_reads, Order.element_failure, Way.Way}
+use Rattle.fb_rules.specs.{Told.IsHead, Told.stopped, Links.element_link, Links.LeadsAlong, Links.StopsAlong, Fields.IsField, Fields.to_table, Fields.entries, Fields.type_place}
+use Rattle.fb_rules.specs.{Fields.type_count, OffsetRows.words_of, OffsetRows.first_word, OffsetRows.IsRow, OffsetRows.IsTyped, OffsetRows.TypeFits, OffsetRows.TypesFit}
+use Rattle.fb_rules.specs.declared.{checks.Checks.Checks, fault.Fault.Fault, offset_row.Referent.TheVariants.Nothing, offset_row.Leads.TheVariants.All as AllTo, site.Halt.Halt}
+use Rattle.fb_rules.specs.declared.{site.LastLink.LastLink, site.LastLink.TheVariants.Behind, site.LastLink.TheVariants.InField, table.Child.Child, table.Table.Table, link.Link.Link}
+use Rattle.fb_verify.specs.{Walked.ended, Walked.TableWalked, Walked.IsInside, Walked.IsInField, Walked.Waits, declared.scratch.Frame.Frame, declared.stack.Walk.Walk}
 
 -- what no walk has written
 abbrev pub blank : Frame

@@ -1,20 +1,15 @@
 -- What a turn of a quick walk leaves: it goes on, up or down, or it stops.
 use Rattle.std.specs.Prelude.{◌≡◌, ℕ, zero, suc, ◌+◌, ◌-◌, ◌*◌, ◌<◌, ◌≤◌, ◌^◌, max, List, [], ◌∷◌, ◌++◌, take, length, slice_get, slice_index_or, IsTrue, Option, Some, None, Result, Ok, Err, true}
 use Rattle.fb_bytes.specs.Word.{Lent}
-use Rattle.fb_schema.specs.declared.{kinds.Kind.Kind, views.Act.TheVariants.Other, views.Step.Step}
+use Rattle.fb_schema.specs.{Rows.is_table, Live.Live, Live.live_fields, Live.widest, Steps.act_of, Steps.is_plain, Steps.step_of, declared.kinds.Kind.Kind}
 use Rattle.fb_schema.specs.declared.kinds.Kind.TheVariants.{Table as ToTable, Union, Texts, Tables, Unions}
-use Rattle.fb_schema.specs.{Rows.is_table, Live.Live, Live.live_fields, Live.widest, Steps.act_of, Steps.is_plain, Steps.step_of}
-use Rattle.fb_rules.specs.declared.{checks.Checks.Checks, table.Child.Child, fault.Reason.Reason, offset_row.Row.Row, offset_row.Leads.TheVariants.All}
-use Rattle.fb_rules.specs.declared.{offset_row.Referent.TheVariants.Table as ATable, site.Halt.Halt}
-use Rattle.fb_verify.specs.declared.scratch.Frame.{Frame}
-use Rattle.fb_rules.specs.declared.site.LastLink.TheVariants.{Behind}
-use Rattle.fb_verify.specs.declared.stack.{Turn.Turn, Walk.Walk}
+use Rattle.fb_schema.specs.declared.views.{Act.TheVariants.Other, Step.Step}
+use Rattle.fb_rules.specs.{Bounds.AreAllowed, OffsetRows.past_first, Order.after, Order.head_failure, Places.is_aligned, Plain.tested_by, declared.checks.Checks.Checks}
+use Rattle.fb_rules.specs.declared.{table.Child.Child, fault.Reason.Reason, offset_row.Row.Row, offset_row.Leads.TheVariants.All, offset_row.Referent.TheVariants.Table as ATable}
+use Rattle.fb_rules.specs.declared.site.{Halt.Halt, LastLink.TheVariants.Behind}
+use Rattle.fb_verify.specs.{Flat.MayOpen, PassesOn.HasRoom, PassesOn.fields_left, Stack.blank, Stack.opened, Stack.Origin, Stack.Waiting, Stack.frame_work, Stack.work, Stack.IsWalking}
+use Rattle.fb_verify.specs.{Stack.IsAtField, Stack.IsOver, Stack.StopsIn, Stack.HaltsIn, Stack.links_left, declared.scratch.Frame.Frame, declared.stack.Turn.Turn, declared.stack.Walk.Walk}
 use Rattle.fb_verify.specs.declared.stack.Turn.TheVariants.{Down, Up, Slowly, Halt as Halted}
-use Rattle.fb_rules.specs.{Bounds.AreAllowed, OffsetRows.past_first, Order.after, Order.head_failure, Places.is_aligned}
-use Rattle.fb_verify.specs.Flat.{MayOpen}
-use Rattle.fb_rules.specs.Plain.{tested_by}
-use Rattle.fb_verify.specs.PassesOn.{HasRoom, fields_left}
-use Rattle.fb_verify.specs.Stack.{blank, opened, Origin, Waiting, frame_work, work, IsWalking, IsAtField, IsOver, StopsIn, HaltsIn, links_left}
 
 -- a count that 64 bits hold with room to spare
 abbrev pub IsShort : ℕ → Type 0

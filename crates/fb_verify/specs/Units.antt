@@ -2,14 +2,11 @@
 use Rattle.std.specs.Prelude.{◌≡◌, ℕ, ◌+◌, ◌<◌, ◌≤◌, ◌^◌, List, [], ◌∷◌, ◌++◌, length, max, IsTrue, Bool, true, false, Option, Some, None, Result, Ok, Err}
 use Rattle.fb_bytes.specs.Word.{Lent}
 use Rattle.fb_schema.specs.{Rows.is_table, Live.live_fields}
-use Rattle.fb_rules.specs.declared.{fault.Fault.Fault, offset_row.Row.Row, site.Halt.Halt, site.Site.Site, site.Stop.Stop, table.Child.Child, table.Table.Table}
-use Rattle.fb_verify.specs.declared.{scratch.Frame.Frame, stack.Walk.Walk}
 use Rattle.fb_rules.specs.{Bounds.AreAllowed, Cost.head_reads, Cost.lead_reads, Fields.to_table, Places.target, Stops.budget_failure, Stops.reads_failure, Stops.lead_reads_failure}
-use Rattle.fb_rules.specs.Order.{◌▷◌, head_failure, element_failure}
-use Rattle.fb_rules.specs.OffsetRows.{first_word, IsLeafLead}
-use Rattle.fb_rules.specs.Told.{told, stopped, way_at, IsHead}
+use Rattle.fb_rules.specs.{Order.◌▷◌, Order.head_failure, Order.element_failure, OffsetRows.first_word, OffsetRows.IsLeafLead, Told.told, Told.stopped, Told.way_at, Told.IsHead}
+use Rattle.fb_rules.specs.declared.{fault.Fault.Fault, offset_row.Row.Row, site.Halt.Halt, site.Site.Site, site.Stop.Stop, table.Child.Child, table.Table.Table}
 use Rattle.fb_verify.specs.{PassesOn.HasPassed, Turns.AllowsTable, Turns.WentOn, Turns.WentOver, Turns.WentWrong}
-use Rattle.fb_verify.specs.Stack.{Origin, Waiting, work, IsWalking, IsStopped, IsStoppedBehind}
+use Rattle.fb_verify.specs.{Stack.Origin, Stack.Waiting, Stack.work, Stack.IsWalking, Stack.IsStopped, Stack.IsStoppedBehind, declared.scratch.Frame.Frame, declared.stack.Walk.Walk}
 
 -- this is the first condition of a unit that fails
 pub record Fails (m new : Lent) (first : Option Fault) (s : Stop) : Type 0 where

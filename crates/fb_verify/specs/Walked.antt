@@ -1,11 +1,9 @@
 -- A part of a walk: from the end of one way to the end of another, and what was passed between.
 use Rattle.std.specs.Prelude.{◌≡◌, ℕ, ◌+◌, List, ◌∷◌, Option, Some, take, drop, slice_get}
 use Rattle.fb_schema.specs.{Rows.Rows, Live.Live, Live.live_fields}
-use Rattle.fb_rules.specs.declared.checks.Checks.{Checks}
 use Rattle.fb_rules.specs.{Places.target, Facts.IsTable, Facts.IsOffset, Unfolds.Unfolds, Unfolds.FieldsUnfold, Unfolds.ElementsUnfold}
-use Rattle.fb_rules.specs.Fields.{IsField, to_table, Entry, entries}
-use Rattle.fb_rules.specs.Tree.{Tree, Kids, kids_length, Elements, elements_length}
-use Rattle.fb_rules.specs.Way.{Way, opening, past_tree, past_fields, way_to_element, way_to_table}
+use Rattle.fb_rules.specs.{Fields.IsField, Fields.to_table, Fields.Entry, Fields.entries, Tree.Tree, Tree.Kids, Tree.kids_length, Tree.Elements, Tree.elements_length}
+use Rattle.fb_rules.specs.{Way.Way, Way.opening, Way.past_tree, Way.past_fields, Way.way_to_element, Way.way_to_table, declared.checks.Checks.Checks}
 
 -- the same way, to this field of the same table
 abbrev pub at_number : Option ℕ → Way → Way

@@ -2,12 +2,10 @@
 // passed at once.
 
 ghost use Rattle.std.specs.Prelude.{◌≡◌, ◌+◌, ◌<◌, IfSome, IsTrue, None, nat_lt, true, false};
-ghost use Rattle.fb_schema.specs.declared.kinds.Kind.TheVariants.{Union};
-ghost use Rattle.fb_schema.specs.Live.{live_of_view};
-ghost use Rattle.fb_rules.specs.{Cost.present_reads, Cost.reads_at, Fields.entries_of, Fields.entries_at, Places.has_slot};
-ghost use Rattle.fb_rules.specs.{OffsetRows.MayPut, OffsetRows.LeavesRow, Order.failure_at, Order.present_failure, Plain.IsTested, Plain.place_from};
-ghost use Rattle.fb_verify.specs.Stack.{Waiting};
-ghost use Rattle.fb_verify.specs.Turns.{IsAtFarField, IsAtOpenField, IsFar, WordsPut, FieldTurned};
+ghost use Rattle.fb_schema.specs.{Live.live_of_view, declared.kinds.Kind.TheVariants.Union};
+ghost use Rattle.fb_rules.specs.{Cost.present_reads, Cost.reads_at, Fields.entries_of, Fields.entries_at, Places.has_slot, OffsetRows.MayPut, OffsetRows.LeavesRow};
+ghost use Rattle.fb_rules.specs.{Order.failure_at, Order.present_failure, Plain.IsTested, Plain.place_from};
+ghost use Rattle.fb_verify.specs.{Stack.Waiting, Turns.IsAtFarField, Turns.IsAtOpenField, Turns.IsFar, Turns.WordsPut, Turns.FieldTurned};
 
 use crate::leaves::NO_TARGETS;
 use crate::scratch::Frame;

@@ -4,17 +4,13 @@
 ghost use Rattle.std.specs.Prelude.{◌≡◌, ◌+◌, ◌-◌, ◌*◌, ◌^◌, ◌<◌, ◌≤◌, length, map, IsTrue, None, true, false};
 ghost use Rattle.fb_schema.specs.{Rows.is_table, Live.live_fields, Steps.is_plain, Steps.step_of};
 ghost use Rattle.std.specs.List.{All};
-ghost use Rattle.fb_rules.specs.{Alike.IsSmallStep, Alike.IsKept, Cost.head_reads, OffsetRows.AreTargetsOf, Order.head_failure, Plain.IsTested};
-ghost use Rattle.fb_rules.specs.Told.{IsHead};
-ghost use Rattle.fb_verify.specs.{Stack.opened, Stack.Waiting, StopsAt.IsStopAt};
-ghost use Rattle.fb_rules.specs.declared.{passed.Sizes.TheVariants.Small, offset_row.Leads.TheVariants.ByType};
-ghost use Rattle.fb_verify.specs.declared.stack.Turn.TheVariants.{Halt as Halted};
-ghost use Rattle.fb_rules.specs.declared.site.LastLink.TheVariants.{Behind, InField};
-ghost use Rattle.fb_verify.specs.Flat.{in_head, frame_at, Going, MayPass, PassesFlat};
+ghost use Rattle.fb_rules.specs.{Alike.IsSmallStep, Alike.IsKept, Cost.head_reads, OffsetRows.AreTargetsOf, Order.head_failure, Plain.IsTested, Plain.StandsAt, Told.IsHead};
+ghost use Rattle.fb_rules.specs.declared.{passed.Sizes.TheVariants.Small, offset_row.Leads.TheVariants.ByType, site.LastLink.TheVariants.Behind, site.LastLink.TheVariants.InField};
+ghost use Rattle.fb_rules.specs.declared.plain.Standing.TheVariants.{Known};
+ghost use Rattle.fb_verify.specs.{Stack.opened, Stack.Waiting, StopsAt.IsStopAt, Flat.in_head, Flat.frame_at, Flat.Going, Flat.MayPass, Flat.PassesFlat};
 ghost use Rattle.fb_verify.specs.PassesOn.{IsBetween, HasRoom, Passage, PassesOn, CameTo, steps_left};
-ghost use Rattle.fb_rules.specs.{Plain.StandsAt, declared.plain.Standing.TheVariants.Known};
 ghost use Rattle.fb_verify.specs.Turns.{HasWord, IsAtMember, IsBrim, IsAtMembers, IsAtFlats, FitsWhole, MemberTurned, RowTurned};
-ghost use Rattle.fb_verify.specs.declared.flat.Extent.TheVariants.{Whole, Part};
+ghost use Rattle.fb_verify.specs.declared.{stack.Turn.TheVariants.Halt as Halted, flat.Extent.TheVariants.Whole, flat.Extent.TheVariants.Part};
 
 use crate::leaves::{first_referent, stands, stop_at_word, targets_of};
 use crate::scratch::Frame;

@@ -2,11 +2,9 @@
 
 ghost use Rattle.std.specs.Prelude.{◌≡◌, ◌+◌, ◌*◌, ◌^◌, ◌<◌, ◌≤◌, [], ◌∷◌, ◌++◌, IfOk, IfErr, Some, true};
 ghost use Rattle.fb_schema.specs.Served.{IsServed};
-ghost use Rattle.fb_rules.specs.{Bounds.AreAllowed, Told.stopped};
-ghost use Rattle.fb_verify.specs.Stack.{Waiting, IsWalking, IsStoppedBehind};
-ghost use Rattle.fb_verify.specs.Turns.{IsInRow, Rests, RowStands, RowTurned};
-ghost use Rattle.fb_rules.specs.OffsetRows.{lead_to, first_word, past_first, AreOfUnion, AreTargetsOf, IsLeafLead, IsReferent, IsRow, AreTypesNear};
-ghost use Rattle.fb_rules.specs.declared.offset_row.Leads.TheVariants.{All};
+ghost use Rattle.fb_rules.specs.{Bounds.AreAllowed, Told.stopped, OffsetRows.lead_to, OffsetRows.first_word, OffsetRows.past_first, OffsetRows.AreOfUnion, OffsetRows.AreTargetsOf};
+ghost use Rattle.fb_rules.specs.{OffsetRows.IsLeafLead, OffsetRows.IsReferent, OffsetRows.IsRow, OffsetRows.AreTypesNear, declared.offset_row.Leads.TheVariants.All};
+ghost use Rattle.fb_verify.specs.{Stack.Waiting, Stack.IsWalking, Stack.IsStoppedBehind, Turns.IsInRow, Turns.Rests, Turns.RowStands, Turns.RowTurned};
 
 use crate::scratch::Frame;
 use crate::stack::{Turn, Walk};

@@ -1,8 +1,7 @@
 // The room of a walk.
 
 ghost use Rattle.std.specs.{Borrow.sem, Prelude.{◌≡◌, ◌<◌, ◌≤◌, length, IfOk, IfErr, Some}};
-ghost use Rattle.fb_verify.specs.declared.scratch.ScratchFault.TheVariants.{LimitOutOfRange, OutOfMemory};
-ghost use Rattle.fb_verify.specs.{Lending.LendsFrames, Stack.blank};
+ghost use Rattle.fb_verify.specs.{Lending.LendsFrames, Stack.blank, declared.scratch.ScratchFault.TheVariants.LimitOutOfRange, declared.scratch.ScratchFault.TheVariants.OutOfMemory};
 
 use fb_rules::offset_row::{NO_ROW, Row};
 use fb_rules::site::Site;

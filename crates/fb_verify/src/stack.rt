@@ -2,15 +2,12 @@
 
 ghost use Rattle.std.specs.Prelude.{[], ◌≡◌, ◌+◌, ◌*◌, ◌^◌, ◌<◌, ◌≤◌, max, min, length, map, take, slice_get, slice_index_or, IsTrue, Some, None, true};
 ghost use Rattle.fb_schema.specs.{Rows.is_table, Live.Live, Live.live_fields, Steps.is_plain, Steps.step_of, Served.IsServed};
-ghost use Rattle.fb_rules.specs.{Bounds.AreAllowed, Told.way_at};
-ghost use Rattle.fb_verify.specs.{Flat.Going};
-ghost use Rattle.fb_verify.specs.PassesOn.{IsBetween, HasRoom, Passage, PassesOn};
-ghost use Rattle.fb_verify.specs.Stack.{blank, Origin, Waiting, IsWalking, opened};
-ghost use Rattle.fb_verify.specs.Turns.{IsShort, IsAtChild, IsAtStep, IsAtTableField, AllowsTable, IsAtWord, IsBrim, IsBrimFor, IsInRow, with_tables};
-ghost use Rattle.fb_verify.specs.Turns.{HasRoomToGo, RowTurned, FieldTurned, Turned, Opened, FramesTurned, RootTurned, Walked, Ran};
-ghost use Rattle.fb_rules.specs.declared.offset_row.Leads.TheVariants.{All};
-ghost use Rattle.fb_verify.specs.declared.stack.Turn.TheVariants.{Halt as Halted};
+ghost use Rattle.fb_rules.specs.{Bounds.AreAllowed, Told.way_at, declared.offset_row.Leads.TheVariants.All};
 ghost use Rattle.fb_rules.specs.declared.site.LastLink.TheVariants.{Behind, InField};
+ghost use Rattle.fb_verify.specs.{Flat.Going, PassesOn.IsBetween, PassesOn.HasRoom, PassesOn.Passage, PassesOn.PassesOn};
+ghost use Rattle.fb_verify.specs.Stack.{blank, Origin, Waiting, IsWalking, opened};
+ghost use Rattle.fb_verify.specs.Turns.{IsShort, IsAtChild, IsAtStep, IsAtTableField, AllowsTable, IsAtWord, IsBrim, IsBrimFor, IsInRow, with_tables, HasRoomToGo, RowTurned, FieldTurned};
+ghost use Rattle.fb_verify.specs.{Turns.Turned, Turns.Opened, Turns.FramesTurned, Turns.RootTurned, Turns.Walked, Turns.Ran, declared.stack.Turn.TheVariants.Halt as Halted};
 
 use crate::flat::{open_frame, pass_steps};
 use crate::scratch::Frame;

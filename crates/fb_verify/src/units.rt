@@ -3,11 +3,9 @@
 
 ghost use Rattle.std.specs.Prelude.{◌≡◌, ◌+◌, ◌-◌, ◌^◌, ◌<◌, ◌≤◌, max, min, length, take, slice_index_or, IfOk, Some, None, true, false};
 ghost use Rattle.fb_schema.specs.{Live.live_of_view, Served.IsServed};
-ghost use Rattle.fb_rules.specs.{Cost.head_reads, Cost.own_reads, Fields.entries};
-ghost use Rattle.fb_verify.specs.{PassesOn.IsBetween, Units.PassesFields, Units.TableOpened, Units.ElementPassed, Units.WordPassed, Units.UnitTurned};
-ghost use Rattle.fb_rules.specs.Order.{head_failure, own_failure};
-ghost use Rattle.fb_rules.specs.OffsetRows.{IsAskable, LeavesRow, IsRow};
+ghost use Rattle.fb_rules.specs.{Cost.head_reads, Cost.own_reads, Fields.entries, Order.head_failure, Order.own_failure, OffsetRows.IsAskable, OffsetRows.LeavesRow, OffsetRows.IsRow};
 ghost use Rattle.fb_rules.specs.Told.{IsAskedAt, IsHead};
+ghost use Rattle.fb_verify.specs.{PassesOn.IsBetween, Units.PassesFields, Units.TableOpened, Units.ElementPassed, Units.WordPassed, Units.UnitTurned};
 ghost use Rattle.fb_verify.specs.Stack.{blank, Waiting, opened, IsWalking};
 
 use crate::leaves::{first_referent, targets_of};

@@ -3,9 +3,8 @@
 ghost use Rattle.std.specs.Prelude.{◌≡◌, ◌+◌, ◌<◌, ◌≤◌, max, min, length, take, IfOk, IfErr, IsTrue};
 ghost use Rattle.fb_bytes.specs.Word.{while_lent};
 ghost use Rattle.fb_schema.specs.Rows.{is_table};
-ghost use Rattle.fb_rules.specs.{MostReads.most_reads, Stops.Stops, Told.stopped};
+ghost use Rattle.fb_rules.specs.{MostReads.most_reads, Stops.Stops, Told.stopped, Verdict.Reports, Verdict.HasNone};
 ghost use Rattle.fb_verify.specs.Stack.{HaltsAlong, links_left};
-ghost use Rattle.fb_rules.specs.Verdict.{Reports, HasNone};
 
 use crate::scratch::Frame;
 use crate::stack::Walk;

@@ -2,10 +2,9 @@
 
 ghost use Rattle.std.specs.Prelude.{◌≡◌, ◌+◌, ◌<◌, ◌≤◌, ◌++◌, length, map, max, min, take, IfOk, IfErr, IsTrue};
 ghost use Rattle.fb_schema.specs.Rows.{is_table};
-ghost use Rattle.fb_rules.specs.{Links.StopsAlong, MostReads.most_reads, Stops.Stops, Verdict.Reports, Verdict.HasNone};
+ghost use Rattle.fb_rules.specs.{Links.StopsAlong, MostReads.most_reads, Stops.Stops, Verdict.Reports, Verdict.HasNone, Told.stopped};
 ghost use Rattle.std.specs.List.{All};
 ghost use Rattle.fb_bytes.specs.Word.{while_lent};
-ghost use Rattle.fb_rules.specs.Told.{stopped};
 ghost use Rattle.fb_verify.specs.{Sealed.IsUnfolded, Sealed.sealed_by, Stack.IsLinked, Stack.frame_link, Stack.last_link, Stack.links_left};
 
 use crate::links::{Located, put_links};

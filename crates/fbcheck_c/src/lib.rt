@@ -6,14 +6,12 @@
 #![tactic(auto)]
 
 ghost use Rattle.std.specs.Prelude.{◌≡◌, ℕ, List, None, Option};
-ghost use Rattle.fbcheck_calls.specs.Answered.{IfSchema, IsChecked, IsPriceTold, IsRoomMade, IsTaken, levels};
-ghost use Rattle.fbcheck_calls.specs.{Again.IsReadAgainBy, Each.IsReadOfEachBy, Asked.published, Placed.IsLocatedBy, Reached.IsPath, Reached.IsReadBy, Spans.AreTold, Spans.IsEachAnswered};
-ghost use Rattle.fb_access.specs.Location.{field_name};
-ghost use Rattle.fbcheck_calls.specs.Told.{told};
-ghost use Rattle.fbcheck_calls.specs.Hinted.{IsHintTold, LacksPathHint, LacksRootHint};
-ghost use Rattle.fbcheck_calls.specs.Framers.{IsFedTold, IsFinished, IsKept, IsNext};
+ghost use Rattle.fbcheck_calls.specs.{Answered.IfSchema, Answered.IsChecked, Answered.IsPriceTold, Answered.IsRoomMade, Answered.IsTaken, Answered.levels, Again.IsReadAgainBy};
+ghost use Rattle.fbcheck_calls.specs.{Each.IsReadOfEachBy, Asked.published, Placed.IsLocatedBy, Reached.IsPath, Reached.IsReadBy, Spans.AreTold, Spans.IsEachAnswered, Told.told};
+ghost use Rattle.fbcheck_calls.specs.{Hinted.IsHintTold, Hinted.LacksPathHint, Hinted.LacksRootHint, Framers.IsFedTold, Framers.IsFinished, Framers.IsKept, Framers.IsNext};
 ghost use Rattle.fbcheck_calls.specs.Names.{IsFaultName, IsNameTold, IsReasonName, held_name, object_name, status_text, table_number};
 ghost use Rattle.fbcheck_calls.specs.declared.outcome.Outcome.{Outcome};
+ghost use Rattle.fb_access.specs.Location.{field_name};
 
 use fb_bytes::Taken;
 use fbcheck_calls::{

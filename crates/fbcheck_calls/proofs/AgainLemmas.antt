@@ -1,26 +1,20 @@
 -- How values are read in bytes that aren't checked.
-use Rattle.std.proofs.Common.{◌≡◌, ◌≢◌, ℕ, ◌+◌, ◌<◌, ◌≤◌, ◌^◌, List, [], ◌∷◌, ◌++◌, append-nil, inl, length, get_or, get_or-set_other, arith, refl, sym, ap, subst, ◌∙◌, IsTrue, Option, Some, None, IfSome, IsSomeAnd}
-use Rattle.std.proofs.Math.ListN.{set}
-use Rattle.std.proofs.lemmas.List.{get_or_default, length-set}
-use Rattle.fb_schema.specs.declared.kinds.Kind.TheVariants.{Table}
-use Rattle.fb_schema.specs.{Rows.Rows, Rows.is_table, Served.IsServed}
-use Rattle.fb_rules.specs.{Places.target, Question.Question, Verdict.Reports, WellFormed.base}
-use Rattle.fb_rules.specs.declared.{fault.Report.Report, start.Start.Start, start.Ident.Ident}
-use Rattle.fb_verify.specs.Sealed.{Sealed, IsUnfolded}
+use Rattle.std.proofs.Common.{◌≡◌, ℕ, ◌+◌, ◌<◌, ◌≤◌, ◌^◌, List, [], ◌∷◌, ◌++◌, append-nil, inl, length, get_or, arith, refl, sym, ap, subst, ◌∙◌, IsTrue, Option, Some, None, IfSome, IsSomeAnd}
+use Rattle.std.proofs.lemmas.List.{get_or_default}
+use Rattle.fb_schema.specs.{Rows.Rows, Rows.is_table, declared.kinds.Kind.TheVariants.Table}
+use Rattle.fb_rules.specs.{Places.target, Question.Question, Verdict.Reports, WellFormed.base, declared.fault.Report.Report, declared.start.Start.Start, declared.start.Ident.Ident}
+use Rattle.fb_verify.specs.Sealed.{Sealed, IsUnfolded, sealed_by}
 use Rattle.fb_bfbs.specs.declared.loading.Loaded.{Loaded}
 use Rattle.fb_strict.specs.{AsAsked.ReportsBy, Planned.Planned}
-use Rattle.fb_verify.specs.Sealed.{sealed_by}
 use Rattle.fb_strict.proofs.OneVerdict.{strict_is_ok}
-use Rattle.fb_access.specs.declared.{extent.Extent.Extent, step.Step.Step, spot.Spot.Spot}
-use Rattle.fb_access.specs.{Denotes.Leads, Denotes.Reaches, Denotes.Shown, Denotes.next_spot, Denotes.root_spot, Held.IsSpot, Tested.IsOther}
-use Rattle.fb_access.proofs.{Staying.step_stays, StepKinds.allowed_leads, StepKinds.kind_allows, Walks.root_placed}
-use Rattle.fbcheck_calls.specs.declared.{options.Options.Options, steps.PlainPath.PlainPath, steps.PlainStep.PlainStep, values.Value.Value}
-use Rattle.fbcheck_calls.specs.Again.{AreOther, AreToldBelow, GoodStaysRead, IsReadAgain, IsToldOf, LiesWithin, ValuesAreOne}
-use Rattle.fbcheck_calls.specs.{Answered.IsGoodFrom, Asked.AreKnown, Asked.ident_asked, Asked.if_table, Asked.limits_of, Asked.plan_asked, Asked.question_of, Asked.root_asked, Asked.start_asked}
-use Rattle.fbcheck_calls.specs.{Answered.IsChecked, Bases.Based, Steps.AllFit, Steps.AreSteps, Steps.DontFit, Steps.EndAt, Steps.FitFrom, Steps.FitHere, Steps.step_of, Steps.steps_in, Values.placed, Values.value_at, Values.value_told}
-use Rattle.fbcheck_calls.specs.Walks.{GoTo, IsToldFrom, NoneFit}
-use Rattle.fbcheck_calls.specs.declared.outcome.Outcome.TheVariants.{Changed as BytesChanged, Good}
-use Rattle.fbcheck_calls.proofs.SpanLemmas.{one_more}
+use Rattle.fb_access.specs.{Denotes.Reaches, Denotes.Shown, Denotes.next_spot, Denotes.root_spot, Held.IsSpot, Tested.IsOther, declared.extent.Extent.Extent}
+use Rattle.fb_access.specs.declared.{step.Step.Step, spot.Spot.Spot}
+use Rattle.fb_access.proofs.{StepKinds.allowed_leads, StepKinds.kind_allows, Walks.root_placed}
+use Rattle.fbcheck_calls.specs.{Again.AreOther, Again.GoodStaysRead, Again.IsReadAgain, Again.IsToldOf, Again.LiesWithin, Again.ValuesAreOne, Answered.IsGoodFrom, Answered.IsChecked}
+use Rattle.fbcheck_calls.specs.{Asked.AreKnown, Asked.ident_asked, Asked.if_table, Asked.limits_of, Asked.plan_asked, Asked.question_of, Asked.root_asked, Asked.start_asked, Bases.Based}
+use Rattle.fbcheck_calls.specs.{Steps.AllFit, Steps.AreSteps, Steps.DontFit, Steps.EndAt, Steps.FitFrom, Steps.FitHere, Steps.step_of, Steps.steps_in, Values.placed, Values.value_at}
+use Rattle.fbcheck_calls.specs.{Values.value_told, Walks.GoTo, Walks.IsToldFrom, Walks.NoneFit, declared.options.Options.Options, declared.steps.PlainPath.PlainPath}
+use Rattle.fbcheck_calls.specs.declared.{steps.PlainStep.PlainStep, values.Value.Value, outcome.Outcome.TheVariants.Changed as BytesChanged, outcome.Outcome.TheVariants.Good}
 
 -- if these are the bytes of a good buffer, this holds at the spot
 abbrev pub IsHeldAt : List ℕ → Rows → Start → ℕ → Spot → Type 0
@@ -30,9 +24,6 @@ module _ (b : List ℕ) (S : Rows) (start : Start) (root : ℕ) where
   pub root_held : IsHeldAt b S start root (root_spot b start root)
   root_held v bytes_are rows_are start_is root_is h =
       rw (sym bytes_are, sym rows_are, sym start_is, sym root_is) (root_placed v v.root (target v.bytes (base v.start)) h refl refl).spot
-
-  pub held_on : (p : Spot) (s : Step) (q : Spot) → IsServed S → Leads b S p s q → IsHeldAt b S start root p → IsHeldAt b S start root q
-  held_on p s q served l held v bytes_are rows_are start_is root_is h = step_stays b S p s q served (held v bytes_are rows_are start_is root_is h) l
 
   -- where it doesn't hold, they aren't
   pub is_other : (q : Spot) → IsHeldAt b S start root q → (IsSpot b S q → ⊥) → IsOther b S start root
@@ -83,8 +74,6 @@ module _ (S : Rows) (p : Spot) (c : PlainStep) (cs : List PlainStep) where
 pub lies_within : (n : ℕ) (x : Shown) (e : Option Extent) → IfSome e (λ (y : Extent). y.at + y.size ≤ n) → LiesWithin n (placed (value_told x) e)
 lies_within n x e h = grind arith
 
--- ---- values one after another
-
 module _ (b : List ℕ) (S : Rows) (start : Start) (root : ℕ) where
   -- what was found at the end of a path
   told_here : (p : PlainPath) (plain : List PlainStep) (x : Value) → steps_in p ≡ Some plain → ((q : Spot) × EndAt b S start root plain q × (x ≡ value_at b S q)) × LiesWithin (length b) x → IsToldOf b S start root p x
@@ -92,26 +81,6 @@ module _ (b : List ℕ) (S : Rows) (start : Start) (root : ℕ) where
 
   pub told_at : (paths : List PlainPath) (n : ℕ) (p d : PlainPath) (plain : List PlainStep) (x : Value) → n < length paths → Some plain ≡ steps_in (get_or paths n d) → ((q : Spot) × EndAt b S start root plain q × (x ≡ value_at b S q)) × LiesWithin (length b) x → IsToldOf b S start root (get_or paths n p) x
   told_at paths n p d plain x there e h = rw (get_or_default paths n p d there) (told_here (get_or paths n d) plain x (sym e) h)
-
-  module _ (paths : List PlainPath) (values : List Value) where
-    pub none_told : AreToldBelow b S start root paths 0 values values
-    none_told = record { told = λ k lt. absurd (omega arith); kept = λ k past v. refl; long = refl }
-
-    -- one value more
-    pub told_on : (n : ℕ) (values' : List Value) (x : Value) → n < length values' → AreToldBelow b S start root paths n values values' → ((p : PlainPath) → IsToldOf b S start root (get_or paths n p) x) → AreToldBelow b S start root paths (n + 1) values (set values' n x)
-    told_on n values' x within below here = record {
-      told = one_more (IsToldOf b S start root) paths values' n x within below.told here;
-      kept = λ k past v. let ne : k ≢ n = omega arith in rw (get_or-set_other values' n k x v ne) (below.kept k (omega arith) v);
-      long = length-set values' n x ∙ below.long;
-    }
-
-    -- where there are no more
-    pub told_all : (n m : ℕ) (values' : List Value) → n ≤ m → ((k : ℕ) → k < m → k < length values' → k < n) → AreToldBelow b S start root paths n values values' → AreToldBelow b S start root paths m values values'
-    told_all n m values' le reach below = record {
-      told = λ k lt within p v. below.told k (reach k lt within) within p v;
-      kept = λ k past v. below.kept k (omega arith) v;
-      long = below.long;
-    }
 
 pub changed_is_read : (l : Loaded) (o : Options) (b : List ℕ) (paths : List PlainPath) (v v' : List Value) (place root : ℕ) → AreKnown o → root_asked l o ≡ Some root → length b < 2 ^ 31 → AreOther l o b paths v v' place root → IsReadAgain l o b paths v v' (BytesChanged place)
 changed_is_read l o b paths v v' place root known asked short other = ((known, subst (λ x. IsSomeAnd x (AreOther l o b paths v v' place)) (sym asked) other), short)

@@ -2,16 +2,13 @@
 use Rattle.std.proofs.Common.{length, ◌≡◌, ◌==◌, ℕ, ◌≤◌, ◌<◌, ◌^◌, List, refl, sym, subst, arith, Bool, true, false, Option, Some, None, option_map, IfSome, IsSome, IsSomeAnd, IsTrue, if◌then◌else◌, eqb-true}
 use Rattle.std.proofs.lemmas.Bool.{ne_eqb}
 use Rattle.fb_schema.specs.Rows.{Rows, is_table}
-use Rattle.fb_bfbs.specs.Loads.{HasTableForRoot}
-use Rattle.fb_bfbs.specs.declared.loading.Loaded.{Loaded}
-use Rattle.fb_rules.specs.Question.{Question}
-use Rattle.fb_rules.specs.declared.start.Ident.{Ident}
-use Rattle.fb_rules.specs.declared.fault.Report.{Report}
+use Rattle.fb_bfbs.specs.{Loads.HasTableForRoot, declared.loading.Loaded.Loaded}
+use Rattle.fb_rules.specs.{Question.Question, declared.start.Ident.Ident, declared.fault.Report.Report}
 use Rattle.fb_strict.specs.{AsAsked.HasNoneBy, AsAsked.ReportsBy, Planned.Planned}
-use Rattle.fbcheck_calls.specs.declared.{outcome.Outcome.Outcome, options.Options.Options}
+use Rattle.fbcheck_calls.specs.{Answered.IsBadFrom, Answered.IsChecked, Answered.IsGoodFrom, Answered.IsUnserved, Answered.Serves, AnswerLaws.CanServe, AnswerLaws.DemandsArePlanned}
+use Rattle.fbcheck_calls.specs.{AnswerLaws.IsAsAsked, AnswerLaws.PlainIsPlain, Asked.ident_asked, Asked.if_table, Asked.plan_asked, Asked.plan_for, Asked.question_of, Asked.root_asked}
+use Rattle.fbcheck_calls.specs.{Bases.Based, Told.told, declared.outcome.Outcome.Outcome, declared.options.Options.Options}
 use Rattle.fbcheck_calls.specs.declared.outcome.Outcome.TheVariants.{Good, Bad, UnknownOptions, OutOfRange, NoIdent, NoRoot, TooLong, NotPlanned}
-use Rattle.fbcheck_calls.specs.Answered.{IsBadFrom, IsChecked, IsGoodFrom, IsUnserved, Serves}
-use Rattle.fbcheck_calls.specs.{AnswerLaws.CanServe, AnswerLaws.DemandsArePlanned, AnswerLaws.IsAsAsked, AnswerLaws.PlainIsPlain, Asked.ident_asked, Asked.if_table, Asked.plan_asked, Asked.plan_for, Asked.question_of, Asked.root_asked, Bases.Based, Told.told}
 
 -- what holds of the value that there is
 at_value : {X : Type 0} (o : Option X) (x : X) (P : X → Type 0) → o ≡ Some x → IsSomeAnd o P → P x

@@ -1,23 +1,19 @@
 -- How the elements of a vector are read in bytes that aren't checked.
 use Rattle.std.proofs.Common.{◌≡◌, ◌≢◌, ℕ, suc, ◌+◌, ◌-◌, ◌<◌, ◌≤◌, ◌^◌, List, [], ◌∷◌, ◌++◌, length, take, drop, get_or, get_or-set_other, get_or-set_same, below_more, take-append-drop, length-append, length-take-le, drop-cons, append-nil, arith, refl, sym, ap, subst, ◌∙◌, Option, Some, None, IsSomeAnd}
 use Rattle.std.specs.Prelude.{IsErrAnd, MatchOption, MatchResult, Result, Ok, Err}
-use Rattle.std.proofs.Math.ListN.{set}
-use Rattle.std.proofs.Math.Seq.{take-append-add}
-use Rattle.std.proofs.lemmas.List.{get_or_past, length-set}
-use Rattle.fb_schema.specs.declared.{kinds.Kind.Kind, kinds.Kind.TheVariants.Table}
-use Rattle.fb_schema.specs.Rows.{Rows}
-use Rattle.fb_rules.specs.declared.{start.Start.Start}
-use Rattle.fb_access.specs.declared.{extent.Extent.Extent, step.Step.Step, step.Step.TheVariants.Element, spot.Spot.Spot, tested_value.Seen.Seen}
-use Rattle.fb_schema.specs.Served.{IsServed}
-use Rattle.fb_access.specs.{Denotes.next_spot, Denotes.root_spot, Fitting.StepsFit, Fitting.next_kind, Held.IsSpot, Tested.IsSeen, Denotes.shown}
+use Rattle.std.proofs.{Math.ListN.set, Math.Seq.take-append-add, lemmas.List.get_or_past, lemmas.List.length-set}
+use Rattle.fb_schema.specs.{Rows.Rows, Served.IsServed, declared.kinds.Kind.Kind, declared.kinds.Kind.TheVariants.Table}
+use Rattle.fb_rules.specs.declared.start.Start.{Start}
+use Rattle.fb_access.specs.{Denotes.next_spot, Denotes.root_spot, Denotes.shown, Fitting.StepsFit, Fitting.next_kind, Held.IsSpot, Tested.IsSeen, declared.extent.Extent.Extent}
+use Rattle.fb_access.specs.declared.{step.Step.Step, step.Step.TheVariants.Element, spot.Spot.Spot, tested_value.Seen.Seen}
 use Rattle.fb_access.proofs.{StepKinds.kinds_go_on, Staying.step_stays, Walks.reaches_on}
 use Rattle.fb_bfbs.specs.declared.loading.Loaded.{Loaded}
-use Rattle.fbcheck_calls.specs.declared.outcome.Outcome.TheVariants.{Changed as BytesChanged}
-use Rattle.fbcheck_calls.specs.declared.{options.Options.Options, steps.PlainPath.PlainPath, steps.PlainStep.PlainStep, values.Value.Value}
-use Rattle.fbcheck_calls.specs.Each.{AreElementsTold, AreFilled, FitsEach, GoodStaysReadOfEach, HasEach, IsCountTold, IsEachOther, IsReadOfEach, MarkedPathsServe, elements_of, path_to, path_to_all, to_element}
-use Rattle.fbcheck_calls.specs.Asked.{AreKnown, root_asked}
-use Rattle.fbcheck_calls.specs.{Again.IsToldOf, Marked.IsEach, Marked.IsEachAfter, Steps.AreSteps, Steps.EndAt, Steps.FitFrom, Steps.FitHere, Steps.IsPathOf, Steps.no_step, Steps.step_of, Steps.steps_in, Steps.steps_said, Values.placed, Values.value_at, Values.value_told}
-use Rattle.fbcheck_calls.specs.Walks.{DontBegin, IsVector, IsElementTold, IsToldAt, IsToldFrom, NoneFit}
+use Rattle.fbcheck_calls.specs.Each.{AreElementsTold, FitsEach, GoodStaysReadOfEach, HasEach, IsCountTold, IsEachOther, IsReadOfEach, MarkedPathsServe, elements_of, path_to, path_to_all}
+use Rattle.fbcheck_calls.specs.{Each.to_element, Asked.AreKnown, Asked.root_asked, Again.AreFilled, Again.IsToldOf, Marked.IsEach, Marked.IsEachAfter}
+use Rattle.fbcheck_calls.specs.Steps.{AreSteps, EndAt, FitFrom, FitHere, IsPathOf, no_step, step_of, steps_in, steps_said}
+use Rattle.fbcheck_calls.specs.{Values.placed, Values.value_at, Values.value_told, Walks.DontBegin, Walks.IsVector, Walks.IsElementTold, Walks.IsToldAt, Walks.IsToldFrom, Walks.NoneFit}
+use Rattle.fbcheck_calls.specs.declared.{outcome.Outcome.TheVariants.Changed as BytesChanged, options.Options.Options, steps.PlainPath.PlainPath, steps.PlainStep.PlainStep}
+use Rattle.fbcheck_calls.specs.declared.values.Value.{Value}
 use Rattle.fbcheck_calls.proofs.{AgainLemmas.good_is_no_other, AgainLemmas.lies_within, AgainLemmas.stuck_fits, StepLemmas.fit_more}
 
 -- ---- the steps of a path to an element

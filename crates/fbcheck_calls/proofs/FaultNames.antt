@@ -1,19 +1,15 @@
 -- The names of faults by the numbers that are told of them.
 use Rattle.std.proofs.Common.{◌≡◌, ◌≢◌, ℕ, refl, sym, ap, ◌∙◌, Bool, true, false, not, ◌&&◌, ◌==◌, List, [], ◌∷◌, map, slice_get, Option, Some, None}
 use Rattle.std.proofs.lemmas.Bool.{false≢true}
-use Rattle.fb_access.specs.PathCodes.{path_code}
-use Rattle.fb_access.specs.declared.path_fault.PathFault.{PathFault}
+use Rattle.fb_access.specs.{PathCodes.path_code, declared.path_fault.PathFault.PathFault}
 use Rattle.fb_access.specs.declared.path_fault.PathFault.TheVariants as path
 use Rattle.fb_bfbs.specs.Codes.{code_text}
 use Rattle.fb_bfbs.specs.declared.load_fault.LoadFault.TheVariants as load
 use Rattle.fb_bytes.specs.declared.stream_fault.StreamFault.TheVariants as stream
-use Rattle.fb_schema.specs.declared.fault.Code.{Code}
-use Rattle.fb_schema.specs.declared.fault.Code.TheVariants.{NoSuchObject, NoSuchEnum, Unsupported, BadSlot, NoTypeField, BadStruct, BadMember, NameTwice, OutOfMemory as NoMemory}
-use Rattle.fb_rules.specs.Reasons.{reason_number, reason_text}
-use Rattle.fb_rules.specs.declared.fault.Reason.{Reason}
-use Rattle.fb_rules.specs.declared.fault.Reason.TheVariants.{WrongPrefix, OutOfBuffer, Misaligned, ZeroOffset, WrongIdentifier, TooDeep, TooManyTables, BadVtable, MissingRequired, NoTerminator, LengthsDiffer, PastTable, TooManyReads, FlexContent, NotUtf8, UnknownField}
-use Rattle.fbcheck_calls.specs.Names.{FaultsHaveTheirNames, IsCodeName, IsFaultName, IsPathName, IsReasonName}
-use Rattle.fbcheck_calls.specs.Told.{code_number}
+use Rattle.fb_schema.specs.declared.fault.Code.{Code, TheVariants.NoSuchObject, TheVariants.NoSuchEnum, TheVariants.Unsupported, TheVariants.BadSlot, TheVariants.NoTypeField}
+use Rattle.fb_schema.specs.declared.fault.Code.TheVariants.{BadStruct, BadMember, NameTwice, OutOfMemory as NoMemory}
+use Rattle.fb_rules.specs.{Reasons.reason_number, Reasons.reason_text, Reasons.reasons, declared.fault.Reason.Reason, declared.fault.Reason.TheVariants.WrongPrefix}
+use Rattle.fbcheck_calls.specs.{Names.FaultsHaveTheirNames, Names.IsCodeName, Names.IsFaultName, Names.IsPathName, Names.IsReasonName, Told.code_number}
 use Rattle.fbcheck_calls.specs.declared.outcome.Outcome.TheVariants.{Bad, NoSchema, BadStream, BadPath}
 
 -- what stands at its number in a list of names is the name of each that has this number
@@ -22,7 +18,7 @@ module _ (X : Type 0) (number : X → ℕ) (text : X → List ℕ) (names : List
   same_name x y e = sym (at y) ∙ (ap (λ n. slice_get names n) e ∙ at x)
 
 abbrev reason_names : List (List ℕ)
-reason_names = [] ∷ map reason_text (WrongPrefix ∷ OutOfBuffer ∷ Misaligned ∷ ZeroOffset ∷ WrongIdentifier ∷ TooDeep ∷ TooManyTables ∷ BadVtable ∷ MissingRequired ∷ NoTerminator ∷ LengthsDiffer ∷ PastTable ∷ TooManyReads ∷ FlexContent ∷ NotUtf8 ∷ UnknownField ∷ [])
+reason_names = [] ∷ map reason_text reasons
 
 reason_at : (r : Reason) → slice_get reason_names (reason_number r) ≡ Some (reason_text r)
 reason_at WrongPrefix = refl

@@ -1,11 +1,8 @@
 -- How steps that fit go on from kind to kind.
 use Rattle.std.proofs.Common.{◌≡◌, List, [], ◌∷◌, None, Some, subst}
-use Rattle.fb_schema.specs.declared.kinds.Kind.{Kind}
-use Rattle.fb_schema.specs.Rows.{Rows}
-use Rattle.fb_access.specs.declared.step.Step.{Step}
-use Rattle.fb_access.specs.Fitting.{StepsFit, next_kind}
-use Rattle.fbcheck_calls.specs.declared.steps.PlainStep.{PlainStep}
-use Rattle.fbcheck_calls.specs.Steps.{FitFrom, step_of}
+use Rattle.fb_schema.specs.{Rows.Rows, declared.kinds.Kind.Kind}
+use Rattle.fb_access.specs.{Fitting.StepsFit, Fitting.next_kind, declared.step.Step.Step}
+use Rattle.fbcheck_calls.specs.{Steps.FitFrom, Steps.step_of, declared.steps.PlainStep.PlainStep}
 
 module _ (S : Rows) (kind : Kind) (c : PlainStep) (cs : List PlainStep) where
   pub fit_on : (s : Step) (after : Kind) → step_of c ≡ Some s → next_kind S kind s ≡ Some after → FitFrom S kind (c ∷ cs) → FitFrom S after cs

@@ -1,12 +1,9 @@
 -- What a framer holds after a piece.
 use Rattle.std.proofs.Common.{◌≡◌, ℕ, Bool, true, false, ◌+◌, ◌<◌, ◌≤◌, ◌≢◌, inl, inr, List, ◌++◌, length, take, drop, refl, sym, ap, ap₂, ◌∙◌, arith, append_assoc, length-append, length-drop, length-take-le, take_all, take-add, take-append-drop}
 use Rattle.std.proofs.lemmas.{Bool.Decides.leb_tells, List.take-append-le}
-use Rattle.fb_bytes.specs.declared.{cut.Endian.TheVariants.Little}
-use Rattle.fb_bytes.specs.Messages.{declared, little, IsMessage}
-use Rattle.fb_bytes.specs.Framing.{Framing, Feeds, IsHeld, IsRefused}
+use Rattle.fb_bytes.specs.{Messages.declared, Messages.little, Messages.IsMessage, Framing.Framing, Framing.Feeds, Framing.IsHeld, Framing.IsRefused, declared.cut.Endian.TheVariants.Little}
 use Rattle.fb_bytes.proofs.MessageLemmas.{declared_append, declared_take}
-use Rattle.fbcheck_calls.specs.declared.framer.Framer.{Framer}
-use Rattle.fbcheck_calls.specs.Framers.{IsFilled, IsKept}
+use Rattle.fbcheck_calls.specs.{Framers.IsFilled, Framers.IsKept, declared.framer.Framer.Framer}
 
 -- a framer that goes on, and holds the first h bytes of the room
 abbrev pub going : List ℕ → ℕ → Framing

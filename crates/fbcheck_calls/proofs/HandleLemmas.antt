@@ -1,8 +1,7 @@
 -- What is answered in the room of a handle, or where it holds none.
 use Rattle.std.proofs.Common.{◌≡◌, ℕ, List, Option, Some, None, option_map, sym, subst, ap, ◌∙◌}
-use Rattle.fbcheck_calls.specs.declared.{outcome.Outcome.Outcome, held.Held.Held, held.Held.TheVariants.Schema, options.Options.Options}
-use Rattle.fbcheck_calls.specs.declared.{steps.PlainPath.PlainPath, values.Value.Value}
-use Rattle.fbcheck_calls.specs.{Answered.levels, Bases.Based, Placed.IsLocated, Placed.IsLocatedBy, Reached.IsRead, Reached.IsReadBy}
+use Rattle.fbcheck_calls.specs.{Answered.levels, Bases.Based, Placed.IsLocated, Placed.IsLocatedBy, Reached.IsRead, Reached.IsReadBy, declared.outcome.Outcome.Outcome}
+use Rattle.fbcheck_calls.specs.declared.{held.Held.Held, held.Held.TheVariants.Schema, options.Options.Options, steps.PlainPath.PlainPath, values.Value.Value}
 
 -- the levels of what was taken out of a handle, and of a handle that held nothing
 module _ {B : Type 0} (value : B → Held) (taken : Option B) (inside : Option Held) (are : option_map value taken ≡ inside) where

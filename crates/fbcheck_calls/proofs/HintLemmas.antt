@@ -1,15 +1,12 @@
 -- What is told of a path that isn't there: printable bytes, and of one that is nothing.
 use Rattle.std.proofs.Common.{◌≡◌, ℕ, zero, suc, Bool, true, false, ◌&&◌, ◌<◌, ◌≤◌, List, [], ◌∷◌, take, Option, None, Some, ◌++◌, ◌∙◌, drop, length, refl, sym, ap, subst, arith}
-use Rattle.std.proofs.Math.ListN.{set}
-use Rattle.std.proofs.Math.Seq.{take-append_seam}
-use Rattle.std.proofs.lemmas.List.{length-set}
+use Rattle.std.proofs.{Math.ListN.set, Math.Seq.take-append_seam, lemmas.List.length-set}
 use Rattle.std.specs.List.{list_all}
-use Rattle.fb_access.specs.Resolving.{Resolves}
-use Rattle.fb_access.specs.declared.step.Step.{Step}
+use Rattle.fb_access.specs.{Resolving.Resolves, declared.step.Step.Step}
 use Rattle.fb_bfbs.specs.declared.loading.Loaded.{Loaded}
-use Rattle.fbcheck_calls.specs.declared.{held.Held.Held, held.Held.TheVariants.Schema}
+use Rattle.fbcheck_calls.specs.{Asked.published, Asked.root_asked, Bases.Based, Hinted.IsPathFrom, Hinted.LacksPathHint, Marked.IsFirstMark, Marked.plain_text, declared.held.Held.Held}
+use Rattle.fbcheck_calls.specs.declared.held.Held.TheVariants.{Schema}
 use Rattle.fb_schema.specs.Rows.{Rows}
-use Rattle.fbcheck_calls.specs.{Asked.published, Asked.root_asked, Bases.Based, Hinted.IsPathFrom, Hinted.LacksPathHint, Marked.IsFirstMark, Marked.plain_text}
 
 -- what isn't below is above
 not_below : (a b : ℕ) → (a < b → ⊥) → b ≤ a

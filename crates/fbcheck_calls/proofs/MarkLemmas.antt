@@ -5,12 +5,10 @@ use Rattle.std.proofs.lemmas.Option.{slice_get_within}
 use Rattle.fb_schema.specs.{Live.Live, Rows.Rows}
 use Rattle.fb_bfbs.specs.{ByteFields.HasUnmarked, ByteFields.IsField, ByteFields.is_at, ByteFields.is_bytes, Loads.IsLoaded, Loads.IsLoadFault, Marks.AreMarks, Marks.Marked, Marks.marked}
 use Rattle.fb_bfbs.specs.declared.{loading.Loaded.Loaded, marks.Mark.Mark, marks.Marks.Marks}
-use Rattle.fb_strict.specs.{Holding.IsPlanFault, Holding.has_bytes, Holding.meant}
-use Rattle.fb_strict.specs.declared.holding.PlanFault.TheVariants.{NoSuchTable as LostAt}
-use Rattle.fbcheck_calls.specs.declared.{outcome.Outcome.Outcome, outcome.FieldAt.FieldAt, options.Options.Options}
-use Rattle.fbcheck_calls.specs.declared.outcome.Outcome.TheVariants.{NoSchema, NoSuchTable}
+use Rattle.fb_strict.specs.{Holding.IsPlanFault, Holding.has_bytes, Holding.meant, declared.holding.PlanFault.TheVariants.NoSuchTable as LostAt}
 use Rattle.fbcheck_calls.specs.Answered.{AreMarksFor, HasLostAt, IsInSlot, IsLostAt, IsNotOpened, IsNotPlanned}
-use Rattle.fbcheck_calls.specs.Asked.{HasLimits, asks_marks, limits_of}
+use Rattle.fbcheck_calls.specs.{Asked.HasLimits, Asked.asks_marks, Asked.limits_of, declared.outcome.Outcome.Outcome, declared.outcome.FieldAt.FieldAt, declared.options.Options.Options}
+use Rattle.fbcheck_calls.specs.declared.outcome.Outcome.TheVariants.{NoSchema, NoSuchTable}
 
 -- where both hold, the first does
 first_holds : (x y : Bool) → (x && y) ≡ true → x ≡ true

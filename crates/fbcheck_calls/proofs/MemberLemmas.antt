@@ -1,8 +1,7 @@
 -- What is no union has no member.
 use Rattle.std.proofs.Common.{◌≡◌, ℕ, pos, Bool, true, false, if◌then◌else◌, [], filter, find, slice_get, Option, Some, None, refl, ap}
 use Rattle.std.specs.{Option.option_and_then, Ordering.int_eq}
-use Rattle.fb_schema.specs.{Kinds.kind_of, Members.is_member_value, Members.member_of, Members.members_in}
-use Rattle.fb_schema.specs.Rows.{Enum, Member, Rows, is_some_union, is_union}
+use Rattle.fb_schema.specs.{Kinds.kind_of, Members.is_member_value, Members.member_of, Members.members_in, Rows.Enum, Rows.Member, Rows.Rows, Rows.is_some_union, Rows.is_union}
 
 no_members : (e : Option Enum) → is_some_union e ≡ false → members_in e ≡ []
 no_members None h = refl

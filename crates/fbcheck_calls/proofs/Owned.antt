@@ -3,23 +3,13 @@
 use Rattle.std.proofs.Common.{◌≡◌, ℕ, true, List, [], ◌∷◌, ◌++◌, refl, subst, Option, Some, None, ◌&&◌}
 use lib.Dec.{T}
 use seplogic.Ra.Ura.{Ura}
-use mir.Syntax.{impl, tnil, dnil}
-use mir.Raw.{raw as bare}
-use mir.Val.{Val, vptr, vstruct, vcons, vnil, of_list, has_ty, WT}
-use base.Logic.{ent, guard, never, via, fst∗, snd∗, guard_i}
+use mir.{Syntax.impl, Syntax.tnil, Syntax.dnil, Raw.raw as bare, Val.Val, Val.vptr, Val.vstruct, Val.vcons, Val.vnil, Val.of_list, Val.has_ty, Val.WT}
+use base.{Logic.ent, Logic.guard, Logic.never, Logic.via, Logic.fst∗, Logic.snd∗, Logic.guard_i, Fraction.full_share}
 use types.Logic.{Logic, sem}
 use types.Kit.{Item, Goal, Seq, Step, step, ‵, given, ◌$◌, move, drop, use1, learn, fsplit, fjoin, fpick, fpack, feq_i, feq_l}
 use contract.Monad.{fact_use}
-use denote.RattleType.{RattleType, Valss}
-use denote.Builtin.{RawPtr}
-use denote.Memory.{lone}
-use denote.Param.{layout}
-use denote.Param.Laws.{Laws}
-use denote.RawPtr.{Ptr, block_ptr, null_ptr, ptr_val, in_a_block, lies_at, Testable}
-use denote.Steps.{nothing}
-use denote.Struct.Owning.{fields, shape, to}
-use denote.Struct.Struct.{within}
-use base.Fraction.{full_share}
+use denote.{RattleType.RattleType, RattleType.Valss, Builtin.RawPtr, Memory.lone, Param.layout, Param.Laws.Laws, RawPtr.Ptr, RawPtr.block_ptr, RawPtr.null_ptr, RawPtr.ptr_val}
+use denote.{RawPtr.in_a_block, RawPtr.lies_at, RawPtr.Testable, Steps.nothing, Struct.Owning.fields, Struct.Owning.shape, Struct.Owning.to, Struct.Struct.within}
 use Rattle.core.proofs.{alloc.Calls.Al, alloc.Calls.handle_tells, cell.Inside.Good}
 use Rattle.core.specs.declared.alloc.Allocator.{Ghosts}
 use Rattle.std_alloc.proofs.ResultValues.{and_tt}
@@ -27,8 +17,7 @@ use Rattle.std_alloc.specs.Box.Ownership.{box_owns}
 use Rattle.std.proofs.GlobalToken.{dealloc_token-Testable}
 use Rattle.std.proofs.alloc.Global.TheLaws as heap_laws
 use Rattle.std.specs.contracts.alloc.Global as heap
-use Rattle.std.specs.contracts.impls.GlobalAllocator.TheImpl.{ghosts}
-use Rattle.std.specs.declared.alloc.Global.{Global}
+use Rattle.std.specs.{contracts.impls.GlobalAllocator.TheImpl.ghosts, declared.alloc.Global.Global}
 use Rattle.fbcheck_calls.specs.Owns.{held}
 use Rattle.fbcheck_calls.specs.contracts.detached.Detached as detached
 use Rattle.fbcheck_calls.specs.contracts.handle.Handle as handle

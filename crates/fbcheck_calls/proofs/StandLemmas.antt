@@ -1,13 +1,10 @@
 -- The bytes of a value stand where its extent says.
 use Rattle.std.proofs.Common.{◌≡◌, ℕ, ◌+◌, ◌*◌, List, None, refl, ap, arith}
 use Rattle.fb_bytes.specs.Word.{word}
-use Rattle.fb_schema.specs.Rows.{Rows}
-use Rattle.fb_schema.specs.declared.kinds.Scalar.{Scalar}
+use Rattle.fb_schema.specs.{Rows.Rows, declared.kinds.Scalar.Scalar}
 use Rattle.fb_schema.specs.declared.kinds.Scalar.TheVariants.{UType, Float as AsFloat, Double}
-use Rattle.fb_access.specs.declared.spot.Spot.{Spot}
+use Rattle.fb_access.specs.{Denotes.bytes_at, Denotes.default_value, Denotes.inline_value, Denotes.number, Denotes.value, Extents.extent, Extents.scalar_extent, declared.spot.Spot.Spot}
 use Rattle.fb_access.specs.declared.spot.Spot.TheVariants.{AtInline, AtStruct, AtText, AtScalars, AtStructs, AtScalarArray, AtStructArray, AtDefault}
-use Rattle.fb_access.specs.Denotes.{bytes_at, default_value, inline_value, number, value}
-use Rattle.fb_access.specs.Extents.{extent, scalar_extent}
 use Rattle.fb_access.proofs.ExtentLaws.{elements_fill_extents}
 use Rattle.fbcheck_calls.specs.AnswerLaws.{Stands}
 

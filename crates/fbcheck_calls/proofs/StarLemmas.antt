@@ -1,14 +1,11 @@
 -- The texts of paths that have [*]: what is before it is the text of a path.
 use Rattle.std.proofs.Common.{◌≡◌, ℕ, suc, ◌+◌, ◌≤◌, inl, inr, List, [], ◌∷◌, ◌++◌, append_assoc, drop, drop-cons, length, length-append, take, refl, sym, ap, subst, ◌∙◌, arith, Ok, Err}
-use Rattle.std.proofs.Math.ListN.{set}
-use Rattle.std.proofs.lemmas.List.{set_split, take_more}
+use Rattle.std.proofs.{Math.ListN.set, lemmas.List.set_split, lemmas.List.take_more}
 use Rattle.std.specs.List.{AllByRecursion}
-use Rattle.fb_schema.specs.declared.{kinds.Kind.Kind, kinds.Kind.TheVariants.Table}
-use Rattle.fb_schema.specs.Rows.{Rows}
-use Rattle.fb_access.specs.declared.{step.Step.Step, step.Step.TheVariants.Element, misfit.Fitted.Fitted}
-use Rattle.fb_access.specs.declared.path_fault.PathFault.{PathFault}
-use Rattle.fb_access.specs.Grammar.{Part, field, element, member, IsNumber, IsPart, number_of, spelling}
-use Rattle.fb_access.specs.{Cutting.GoOn, Resolving.Follows, Resolving.Refuses, Resolving.Resolves, Resolving.fitting}
+use Rattle.fb_schema.specs.{Rows.Rows, declared.kinds.Kind.Kind, declared.kinds.Kind.TheVariants.Table}
+use Rattle.fb_access.specs.{Grammar.Part, Grammar.field, Grammar.element, Grammar.member, Grammar.IsNumber, Grammar.IsPart, Grammar.number_of, Grammar.spelling, Cutting.GoOn}
+use Rattle.fb_access.specs.{Resolving.Follows, Resolving.Refuses, Resolving.Resolves, Resolving.fitting, declared.step.Step.Step, declared.step.Step.TheVariants.Element}
+use Rattle.fb_access.specs.declared.{misfit.Fitted.Fitted, path_fault.PathFault.PathFault}
 use Rattle.fb_access.proofs.{OneAnswer.one_answer, Words.name_word, Words.number_word}
 use Rattle.fbcheck_calls.specs.Marked.{HasMark, IsEachAfter, at_zero}
 

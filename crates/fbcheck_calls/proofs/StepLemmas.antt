@@ -1,12 +1,13 @@
 -- How steps lead on from a spot, and that steps that fit are allowed.
 use Rattle.std.proofs.Common.{◌≡◌, ℕ, ◌+◌, ◌<◌, get_or, add-one, List, [], ◌∷◌, ◌++◌, length, take, drop, sym, ap, subst, ◌∙◌, arith, append_assoc, drop-cons, length-take-le, Some}
-use Rattle.std.proofs.Math.ListN.{set}
-use Rattle.std.proofs.lemmas.{List.set_at, List.take_more, Slice.Zip.AllZip-long, Slice.Zip.all_zipped_more}
+use Rattle.std.proofs.{Math.ListN.set, lemmas.List.set_at, lemmas.List.take_more, lemmas.Slice.Zip.AllZip-long, lemmas.Slice.Zip.all_zipped_more}
 use Rattle.fb_schema.specs.Rows.{Rows}
-use Rattle.fb_access.specs.declared.{step.Step.Step, spot.Spot.Spot}
-use Rattle.fb_access.specs.{Denotes.Leads, Denotes.Reaches, Fitting.next_kind, Here.KindsGoOn}
-use Rattle.fbcheck_calls.specs.declared.steps.PlainStep.{PlainStep}
-use Rattle.fbcheck_calls.specs.Steps.{AreSteps, FitHere, step_of}
+use Rattle.fb_access.specs.{Denotes.Leads, Denotes.Reaches, Fitting.next_kind, Here.KindsGoOn, declared.step.Step.Step, declared.spot.Spot.Spot}
+use Rattle.fbcheck_calls.specs.{Steps.AreSteps, Steps.FitHere, Steps.step_of, declared.steps.PlainStep.PlainStep}
+
+-- the step at a place is the first of those from there on
+pub next_of : (steps : List PlainStep) (i : ℕ) (d : PlainStep) → i < length steps → drop i steps ≡ get_or steps i d ∷ drop (i + 1) steps
+next_of steps i d within = rw add-one (drop-cons steps i d within)
 
 -- where the steps that are left lead is what was looked for
 abbrev pub IsReachedBy : List ℕ → Rows → Spot → List PlainStep → (Spot → Type 0) → Type 0
@@ -33,7 +34,7 @@ one_written path first room front i d c none within there are is e =
     let taken : length (take i path) ≡ i = length-take-le i path (omega arith) in
     let long : length front ≡ i = omega arith in
     let rest = drop (i + 1) first in
-    let cons : drop i first ≡ get_or first i none ∷ rest = rw add-one (drop-cons first i none there) in (
+    let cons = next_of first i none there in (
       front ++ c ∷ [],
       rw (take_more path i d within) (all_zipped_more R front (take i path) c (get_or path i d) are e),
       ap (λ r. set r i c) (is ∙ ap (λ r. front ++ r) cons) ∙ set_at front (get_or first i none) rest c i long ∙ sym (append_assoc front (c ∷ []) rest),

@@ -1,15 +1,13 @@
 -- What is answered where values are read in bytes that aren't checked: those of a buffer that was good before.
 use Rattle.std.specs.Prelude.{◌≡◌, ℕ, ◌+◌, ◌<◌, ◌≤◌, ◌^◌, List, length, slice_index_or, None, IsSomeAnd}
 use Rattle.fb_bfbs.specs.declared.loading.Loaded.{Loaded}
-use Rattle.fb_rules.specs.declared.fault.Report.{Report}
-use Rattle.fb_rules.specs.declared.start.Start.{Start}
+use Rattle.fb_rules.specs.declared.{fault.Report.Report, start.Start.Start}
 use Rattle.fb_schema.specs.Rows.{Rows}
 use Rattle.fb_access.specs.Tested.{IsOther}
-use Rattle.fbcheck_calls.specs.declared.{outcome.Outcome.Outcome, held.Held.Held, held.Held.TheVariants.Schema, held.Held.TheVariants.Room}
-use Rattle.fbcheck_calls.specs.declared.{options.Options.Options, steps.PlainPath.PlainPath, values.Value.Value}
+use Rattle.fbcheck_calls.specs.{Answered.IsChecked, Asked.AreKnown, Asked.root_asked, Asked.start_asked, Bases.Based, Steps.AllFit, Steps.IsFirstMisfit, Values.IsValueOf}
+use Rattle.fbcheck_calls.specs.declared.{outcome.Outcome.Outcome, held.Held.Held, held.Held.TheVariants.Schema, held.Held.TheVariants.Room, options.Options.Options}
+use Rattle.fbcheck_calls.specs.declared.{steps.PlainPath.PlainPath, values.Value.Value}
 use Rattle.fbcheck_calls.specs.declared.outcome.Outcome.TheVariants.{Done, Good, UnknownOptions, NoRoot, TooLong, Misfit, Changed}
-use Rattle.fbcheck_calls.specs.{Answered.IsChecked, Asked.AreKnown, Asked.root_asked, Asked.start_asked, Bases.Based}
-use Rattle.fbcheck_calls.specs.{Steps.AllFit, Steps.IsFirstMisfit, Values.IsValueOf}
 
 -- where the bytes of a value are told, they lie within so many
 abbrev pub LiesWithin : ℕ → Value → Type 0
@@ -20,11 +18,15 @@ pub record IsToldOf (b : List ℕ) (S : Rows) (start : Start) (root : ℕ) (p : 
   pub value : IsValueOf b S start root p v
   pub within : LiesWithin (length b) v
 
--- the value at each place below so many is told of the path at this place, and the others are as they were
-pub record AreToldBelow (b : List ℕ) (S : Rows) (start : Start) (root : ℕ) (paths : List PlainPath) (n : ℕ) (values values' : List Value) : Type 0 where
-  pub told : (k : ℕ) → k < n → k < length values' → (p : PlainPath) (v : Value) → IsToldOf b S start root (slice_index_or paths k p) (slice_index_or values' k v)
+-- this holds of each value below so many, by its place, and the others are as they were
+pub record AreFilled (P : ℕ → Value → Type 0) (n : ℕ) (values values' : List Value) : Type 0 where
+  pub filled : (k : ℕ) → k < n → k < length values' → (v : Value) → P k (slice_index_or values' k v)
   pub kept : (k : ℕ) → n ≤ k → (v : Value) → slice_index_or values' k v ≡ slice_index_or values k v
   pub long : length values' ≡ length values
+
+-- the value at each place below so many is told of the path at this place, and the others are as they were
+abbrev pub AreToldBelow : List ℕ → Rows → Start → ℕ → List PlainPath → ℕ → List Value → List Value → Type 0
+AreToldBelow b S start root paths n values values' = AreFilled (λ k v. (p : PlainPath) → IsToldOf b S start root (slice_index_or paths k p) v) n values values'
 
 -- the options are known, and this holds of the root table that they ask
 abbrev pub IsAsked : Loaded → Options → (ℕ → Type 0) → Type 0

@@ -1,15 +1,13 @@
 -- The laws of what a check answers: to whom a yes is due, and to whom a no; and where a value's bytes are.
 use Rattle.std.specs.Prelude.{◌≡◌, ◌≢◌, ℕ, ◌<◌, ◌≤◌, ◌^◌, List, length, IsSome, Option, Some, None, option_and_then}
 use Rattle.fb_schema.specs.Rows.{Rows}
-use Rattle.fb_rules.specs.{Question.Question, Tree.Tree, WellFormed.IsWellFormed, WellFormed.IsWithin}
+use Rattle.fb_rules.specs.{Question.Question, Tree.Tree, WellFormed.IsWellFormed, WellFormed.IsWithin, declared.fault.Report.Report, declared.start.Ident.Ident}
 use Rattle.fb_strict.specs.{Planned.Planned, Strictly.ReportsStrictly}
-use Rattle.fb_rules.specs.declared.{fault.Report.Report, start.Ident.Ident}
-use Rattle.fb_access.specs.declared.{extent.Extent.Extent, spot.Spot.Spot}
+use Rattle.fb_access.specs.{Denotes.Shown, Denotes.bytes_at, Denotes.value, Extents.extent, Spots.kind_at, StepLaws.size_in_place, StepLaws.HoldsElements, declared.extent.Extent.Extent}
+use Rattle.fb_access.specs.declared.spot.Spot.{Spot}
 use Rattle.fb_access.specs.Denotes as denotes
-use Rattle.fb_access.specs.{Denotes.Shown, Denotes.bytes_at, Denotes.value, Extents.extent, Spots.kind_at, StepLaws.size_in_place, StepLaws.HoldsElements}
+use Rattle.fbcheck_calls.specs.{Answered.IsChecked, Bases.Based, Told.told, Asked.HasLimits, Asked.ident_asked, Asked.plan_asked, Asked.question_of, Asked.root_asked}
 use Rattle.fbcheck_calls.specs.declared.{outcome.Outcome.Outcome, options.Options.Options}
-use Rattle.fbcheck_calls.specs.{Answered.IsChecked, Bases.Based, Told.told}
-use Rattle.fbcheck_calls.specs.Asked.{HasLimits, ident_asked, plan_asked, question_of, root_asked}
 
 -- the schema has the plan, the root and the identifier that the options ask, and there is room for their depth
 pub record CanServe (s : Based) (n : ℕ) (o : Options) (plan : Option Planned) (root : ℕ) (ident : Ident) : Type 0 where

@@ -1,19 +1,15 @@
 -- Which answer a call gives.
 use Rattle.std.specs.Prelude.{◌≡◌, ◌≢◌, ℕ, ◌<◌, ◌≤◌, ◌^◌, List, [], length, map, slice_get, Option, Some, None, Result, Ok, Err, IsSomeAnd, IsSome, IsTrue, Bool, true, false}
 use Rattle.fb_schema.specs.{Live.Live, Live.live_fields, Rows.Rows, Rows.is_table}
-use Rattle.fb_rules.specs.{Bounds.Bounds, MostReads.most_reads, Question.Question, Question.question}
-use Rattle.fb_rules.specs.declared.{fault.Fault.Fault, fault.Report.Report, start.Ident.Ident}
-use Rattle.fb_bfbs.specs.{ByteFields.HasUnmarked, ByteFields.LacksMark, Loads.IsLoaded, Loads.IsLoadFault, Marks.AreMarks, Marks.Marked, Marks.marked}
-use Rattle.fb_bfbs.specs.declared.{loading.Loaded.Loaded, load_fault.LoadFault.TheVariants.OutOfMemory, marks.Marks.Marks}
+use Rattle.fb_rules.specs.{Bounds.Bounds, MostReads.most_reads, Question.Question, declared.fault.Fault.Fault, declared.fault.Report.Report, declared.start.Ident.Ident}
+use Rattle.fb_bfbs.specs.{ByteFields.HasUnmarked, ByteFields.LacksMark, Loads.IsLoaded, Loads.IsLoadFault, Marks.AreMarks, Marks.Marked, Marks.marked, declared.loading.Loaded.Loaded}
+use Rattle.fb_bfbs.specs.declared.{load_fault.LoadFault.TheVariants.OutOfMemory, marks.Marks.Marks}
 use Rattle.fb_strict.specs.{Demanded.demanded, Holding.holdings_if, Holding.IsPlanFault, Planned.Planned, Planned.IsPlan, MostReads.most_reads_strictly}
-use Rattle.fb_strict.specs.declared.holding.PlanFault.TheVariants.{NoSuchTable as LostAt}
-use Rattle.fb_strict.specs.AsAsked.{ReportsBy, HasNoneBy, StopsBy}
-use Rattle.fbcheck_calls.specs.declared.{outcome.Outcome.Outcome, outcome.FieldAt.FieldAt, outcome.Verdict.Verdict, held.Held.Held}
-use Rattle.fbcheck_calls.specs.declared.{held.Held.TheVariants.Schema, held.Held.TheVariants.Room, options.Options.Options}
-use Rattle.fbcheck_calls.specs.declared.outcome.Outcome.TheVariants.{Done, Good, Bad, OutOfRange, NoIdent, NoRoot, TooLong, NoSchema, NotPlanned, UnmarkedBytes, NoSuchTable}
+use Rattle.fb_strict.specs.{AsAsked.ReportsBy, AsAsked.HasNoneBy, AsAsked.StopsBy, declared.holding.PlanFault.TheVariants.NoSuchTable as LostAt}
 use Rattle.fbcheck_calls.specs.Asked.{HasLimits, LimitsFail, asks_marks, checks_asked, demands_of, ident_asked, limits_of, plan_asked, question_of, root_asked, start_asked}
-use Rattle.fbcheck_calls.specs.Bases.{Based}
-use Rattle.fbcheck_calls.specs.Told.{low, told}
+use Rattle.fbcheck_calls.specs.{Bases.Based, Told.low, Told.told, declared.outcome.Outcome.Outcome, declared.outcome.FieldAt.FieldAt, declared.outcome.Verdict.Verdict}
+use Rattle.fbcheck_calls.specs.declared.{held.Held.Held, held.Held.TheVariants.Schema, held.Held.TheVariants.Room, options.Options.Options}
+use Rattle.fbcheck_calls.specs.declared.outcome.Outcome.TheVariants.{Done, Good, Bad, OutOfRange, NoIdent, NoRoot, TooLong, NoSchema, NotPlanned, UnmarkedBytes, NoSuchTable}
 
 -- ---- to load a schema
 

@@ -1,7 +1,6 @@
 -- The steps of a path around the one that stands for each element.
 use Rattle.std.specs.Prelude.{◌≡◌, ◌-◌, drop, take}
-use Rattle.fbcheck_calls.specs.declared.{steps.Around.Around, steps.PlainPath.PlainPath}
-use Rattle.fbcheck_calls.specs.Each.{HasEach}
+use Rattle.fbcheck_calls.specs.{Each.HasEach, declared.steps.Around.Around, declared.steps.PlainPath.PlainPath}
 
 pub record IsAround (p : PlainPath) (around : Around) : Type 0 where
   pub has : HasEach p

@@ -1,16 +1,12 @@
 -- What options ask.
 use Rattle.std.specs.Prelude.{◌≡◌, ℕ, ◌<◌, ◌≤◌, ◌==◌, ◌||◌, ◌&&◌, ◌/◌, ◌%◌, nat_le, min, Bool, true, false, not, List, length, replicate, Option, Some, None, option_map, IsTrue, if◌then◌else◌}
-use Rattle.fb_bfbs.specs.LoadLaws.{ident_bytes, own_ident}
-use Rattle.fb_bfbs.specs.declared.loading.Loaded.{Loaded}
+use Rattle.fb_bfbs.specs.{LoadLaws.ident_bytes, LoadLaws.own_ident, declared.loading.Loaded.Loaded}
 use Rattle.fb_schema.specs.Rows.{Rows, is_table}
-use Rattle.fb_rules.specs.{Bounds.Bounds, Bounds.limits_of_length, Question.Question, Question.question}
-use Rattle.fb_rules.specs.declared.{checks.Checks.Checks, start.Ident.Ident, start.Ident.TheVariants.Any, start.Ident.TheVariants.Want}
-use Rattle.fb_strict.specs.Planned.{Planned}
-use Rattle.fb_strict.specs.declared.demands.Demands.{Demands}
-use Rattle.fb_rules.specs.declared.{start.Start.Start, start.Start.TheVariants.Bare, start.Start.TheVariants.Prefixed}
-use Rattle.fbcheck_calls.specs.declared.{outcome.Outcome.Outcome, outcome.Outcome.TheVariants.UnknownOptions, outcome.Outcome.TheVariants.OutOfRange}
+use Rattle.fb_rules.specs.{Bounds.Bounds, Bounds.limits_of_length, Question.Question, Question.question, declared.checks.Checks.Checks, declared.start.Ident.Ident}
+use Rattle.fb_rules.specs.declared.start.{Ident.TheVariants.Any, Ident.TheVariants.Want, Start.Start, Start.TheVariants.Bare, Start.TheVariants.Prefixed}
+use Rattle.fb_strict.specs.{Planned.Planned, declared.demands.Demands.Demands}
+use Rattle.fbcheck_calls.specs.{Bases.Based, declared.outcome.Outcome.Outcome, declared.outcome.Outcome.TheVariants.UnknownOptions, declared.outcome.Outcome.TheVariants.OutOfRange}
 use Rattle.fbcheck_calls.specs.declared.options.Options.{Options}
-use Rattle.fbcheck_calls.specs.Bases.{Based}
 
 -- how a buffer begins, by whether the flag for a prefix is off
 abbrev pub start_of : Bool → Start

@@ -8,7 +8,7 @@ use Rattle.fb_access.specs.Tested.{IsOther}
 use Rattle.fbcheck_calls.specs.declared.{outcome.Outcome.Outcome, held.Held.Held, held.Held.TheVariants.Schema, held.Held.TheVariants.Room}
 use Rattle.fbcheck_calls.specs.declared.{options.Options.Options, steps.PlainPath.PlainPath, steps.PlainStep.PlainStep, values.Value.Value}
 use Rattle.fbcheck_calls.specs.declared.outcome.Outcome.TheVariants.{Done, Good, UnknownOptions, NoRoot, TooLong, Misfit, Changed}
-use Rattle.fbcheck_calls.specs.{Again.IsAsked, Again.IsToldOf, Answered.IsChecked, Asked.AreKnown, Asked.root_asked, Asked.start_asked, Bases.Based, Reached.ResolvesTo, Steps.FitsFrom}
+use Rattle.fbcheck_calls.specs.{Again.AreFilled, Again.IsAsked, Again.IsToldOf, Answered.IsChecked, Asked.AreKnown, Asked.root_asked, Asked.start_asked, Bases.Based, Reached.ResolvesTo, Steps.FitsFrom}
 
 -- a step to this element
 abbrev pub to_element : ℕ → PlainStep
@@ -37,12 +37,6 @@ pub record FitsEach (S : Rows) (root : ℕ) (p : PlainPath) : Type 0 where
 -- how many elements a value has, none where it is no vector and no array
 abbrev pub elements_of : Value → ℕ
 elements_of v = if v.kind == 9 then v.number else 0
-
--- this holds of each value below so many, by its place, and the others are as they were
-pub record AreFilled (P : ℕ → Value → Type 0) (n : ℕ) (values values' : List Value) : Type 0 where
-  pub filled : (k : ℕ) → k < n → k < length values' → (v : Value) → P k (slice_index_or values' k v)
-  pub kept : (k : ℕ) → n ≤ k → (v : Value) → slice_index_or values' k v ≡ slice_index_or values k v
-  pub long : length values' ≡ length values
 
 -- of so many elements, from this one on, each value is told of the path to its element, as a read of this path tells it
 abbrev pub AreElementsTold : List ℕ → Rows → Start → ℕ → PlainPath → ℕ → ℕ → List Value → List Value → Type 0

@@ -1,30 +1,24 @@
 -- What C is told, by example. The numbers are those that a caller in C knows from its header.
 use Rattle.std.specs.Prelude.{◌≡◌, ℕ, pos, true, false, List, [], ◌∷◌, filter, map, codes, replicate, Option, Some, None, Ok, Err}
-use Rattle.std.specs.Borrow.{Bor}
+use Rattle.std.specs.{Borrow.Bor, List.range_with_len}
 use Rattle.fb_bfbs.specs.declared.load_fault.LoadFault.TheVariants as load
 use Rattle.fb_bfbs.specs.declared.loading.Loaded.{Loaded}
 use Rattle.fb_bytes.specs.declared.stream_fault.StreamFault.TheVariants as stream
 use Rattle.fb_schema.specs.declared.fault.Code.TheVariants.{NoSuchObject, NoSuchEnum, Unsupported, BadSlot, NoTypeField, BadStruct, BadMember, NameTwice}
-use Rattle.fb_rules.specs.{Samples.table, Reasons.reason_number}
-use Rattle.fb_rules.specs.declared.{fault.Fault.Fault, start.Ident.TheVariants.Any, start.Ident.TheVariants.Want}
-use Rattle.fb_rules.specs.declared.start.Start.TheVariants.{Bare, Prefixed}
-use Rattle.fb_rules.specs.declared.fault.Reason.TheVariants.{WrongPrefix, OutOfBuffer, Misaligned, ZeroOffset, WrongIdentifier, TooDeep, TooManyTables, BadVtable}
-use Rattle.fb_rules.specs.declared.fault.Reason.TheVariants.{MissingRequired, NoTerminator, LengthsDiffer, PastTable, TooManyReads, FlexContent, NotUtf8, UnknownField}
+use Rattle.fb_rules.specs.{Samples.table, Reasons.reason_count, Reasons.reason_number, Reasons.reasons, declared.fault.Fault.Fault, declared.start.Ident.TheVariants.Any}
+use Rattle.fb_rules.specs.declared.{start.Ident.TheVariants.Want, start.Start.TheVariants.Bare, start.Start.TheVariants.Prefixed, fault.Reason.TheVariants.OutOfBuffer}
+use Rattle.fb_rules.specs.declared.fault.Reason.TheVariants.{TooManyReads}
 use Rattle.fb_access.specs.Denotes as denotes
 use Rattle.fb_access.specs.declared.path_fault.PathFault.TheVariants as path
 use Rattle.fb_access.specs.declared.step.Step.TheVariants.{Field, Element, Member}
-use Rattle.fbcheck_calls.specs.declared.{outcome.Outcome.Outcome, outcome.Verdict.Verdict, options.Options.Options, steps.PlainPath.PlainPath}
-use Rattle.fbcheck_calls.specs.declared.steps.PlainStep.{PlainStep}
-use Rattle.fbcheck_calls.specs.declared.status.Status.TheVariants as statuses
-use Rattle.fbcheck_calls.specs.declared.outcome.Outcome.TheVariants.{Done, Good, Bad, UnknownOptions, OutOfRange, NoIdent, NoRoot, TooLong, NoSchema}
-use Rattle.fbcheck_calls.specs.declared.outcome.Outcome.TheVariants.{NoSpan, BadStream, BadPath, NoRoom, Misfit, NotPlanned, UnmarkedBytes, NoSuchTable}
-use Rattle.fb_strict.specs.{Demanded.demanded, Planned.Planned}
-use Rattle.fb_strict.specs.declared.demands.Demands.{Demands}
 use Rattle.fbcheck_calls.specs.Asked.{asks_marks, checks_asked, demands_of, ident_asked, known_demands, limits_of, plan_asked, published, root_asked, start_asked}
-use Rattle.fbcheck_calls.specs.Bases.{Based}
-use Rattle.fbcheck_calls.specs.{Framers.IsRoom, Framers.fed_status, Framers.used_or, Names.filled, Names.number_or_none, Placed.cut_to}
-use Rattle.fbcheck_calls.specs.{Spans.all_good, Spans.cut, Steps.no_step, Steps.step_of, Steps.steps_in, Told.blank, Told.code_number, Told.told}
-use Rattle.fbcheck_calls.specs.Values.{placed, plain, value_told}
+use Rattle.fbcheck_calls.specs.{Bases.Based, Framers.IsRoom, Framers.fed_status, Framers.used_or, Names.filled, Names.number_or_none, Placed.cut_to, Spans.all_good, Spans.cut}
+use Rattle.fbcheck_calls.specs.{Steps.no_step, Steps.step_of, Steps.steps_in, Told.blank, Told.code_number, Told.told, Values.placed, Values.plain, Values.value_told}
+use Rattle.fbcheck_calls.specs.declared.{outcome.Outcome.Outcome, outcome.Verdict.Verdict, options.Options.Options, steps.PlainPath.PlainPath, steps.PlainStep.PlainStep}
+use Rattle.fbcheck_calls.specs.declared.outcome.Outcome.TheVariants.{Done, Good, Bad, UnknownOptions, OutOfRange, NoIdent, NoRoot, TooLong, NoSchema, NoSpan, BadStream, BadPath, NoRoom}
+use Rattle.fbcheck_calls.specs.declared.outcome.Outcome.TheVariants.{Misfit, NotPlanned, UnmarkedBytes, NoSuchTable}
+use Rattle.fbcheck_calls.specs.declared.status.Status.TheVariants as statuses
+use Rattle.fb_strict.specs.{Demanded.demanded, Planned.Planned, declared.demands.Demands.Demands}
 
 -- ---- answers in numbers
 
@@ -42,7 +36,7 @@ status a = (told a).status
 pub record Verdicts : Type 0 where
   pub good : told (Good (record { tables = 3; depth = 2; reads = 40 })) ≡ record (verdict 0 0 0 4294967295) { tables = 3; depth = 2; reads = 40 }
   pub bad : told (Bad torn) ≡ record (verdict 1 2 2 3) { at = 28; reads = 7 }
-  pub reasons : map reason_number (WrongPrefix ∷ OutOfBuffer ∷ Misaligned ∷ ZeroOffset ∷ WrongIdentifier ∷ TooDeep ∷ TooManyTables ∷ BadVtable ∷ MissingRequired ∷ NoTerminator ∷ LengthsDiffer ∷ PastTable ∷ TooManyReads ∷ FlexContent ∷ NotUtf8 ∷ UnknownField ∷ []) ≡ 1 ∷ 2 ∷ 3 ∷ 4 ∷ 5 ∷ 6 ∷ 7 ∷ 8 ∷ 9 ∷ 10 ∷ 11 ∷ 12 ∷ 13 ∷ 14 ∷ 15 ∷ 16 ∷ []
+  pub reasons : map reason_number reasons ≡ range_with_len 1 reason_count
   pub of_no_field : told (Bad (record torn { field = None; reason = TooManyReads })) ≡ record (verdict 1 13 2 4294967295) { at = 28; reads = 7 }
   pub of_more_reads : (told (Bad (record torn { reads = 18446744073709551616 }))).reads ≡ 18446744073709551615
   pub unserved : map status (UnknownOptions ∷ OutOfRange ∷ NoIdent ∷ NoRoot ∷ TooLong ∷ []) ≡ 3 ∷ 4 ∷ 5 ∷ 6 ∷ 7 ∷ []

@@ -1,14 +1,10 @@
 -- What a framer of a caller in C holds, and what its calls do.
 use Rattle.std.specs.Prelude.{◌≡◌, ℕ, ◌+◌, ◌-◌, ◌<◌, ◌≤◌, ◌==◌, ◌⊎◌, min, not, true, false, List, [], ◌++◌, length, take, Result, Ok, Err, if◌then◌else◌}
-use Rattle.fb_bytes.specs.Messages.{IsMessage, little}
-use Rattle.fb_bytes.specs.Framing.{Framing, IsHeld, Feeds, IsRefused}
-use Rattle.fb_bytes.specs.declared.{framer.Taken.Taken, stream_fault.StreamFault.StreamFault}
-use Rattle.fb_bytes.specs.declared.stream_fault.StreamFault.TheVariants.{Oversize, Truncated, Failed}
-use Rattle.fbcheck_calls.specs.declared.outcome.Outcome.{Outcome}
-use Rattle.fbcheck_calls.specs.declared.outcome.Outcome.TheVariants.{Done, OutOfRange, BadStream}
-use Rattle.fbcheck_calls.specs.declared.framer.Framer.{Framer}
+use Rattle.fb_bytes.specs.{Messages.IsMessage, Messages.little, Framing.Framing, Framing.IsHeld, Framing.Feeds, Framing.IsRefused, declared.framer.Taken.Taken}
+use Rattle.fb_bytes.specs.declared.stream_fault.StreamFault.{StreamFault, TheVariants.Oversize, TheVariants.Truncated, TheVariants.Failed}
+use Rattle.fbcheck_calls.specs.{Told.number, Told.told, declared.outcome.Outcome.Outcome}
+use Rattle.fbcheck_calls.specs.declared.{outcome.Outcome.TheVariants.Done, outcome.Outcome.TheVariants.OutOfRange, outcome.Outcome.TheVariants.BadStream, framer.Framer.Framer}
 use Rattle.fbcheck_calls.specs.declared.status.Status.TheVariants as status
-use Rattle.fbcheck_calls.specs.Told.{number, told}
 
 -- a message may have so much room
 abbrev pub IsRoom : ℕ → Type 0

@@ -2,10 +2,9 @@
 use Rattle.std.specs.Prelude.{◌≡◌, ℕ, ◌≤◌, ◌&&◌, nat_le, Bool, IsTrue, List, length, IsSome, Option, Some, None}
 use Rattle.std.specs.List.{list_all}
 use Rattle.fb_schema.specs.Rows.{Rows, table_named}
-use Rattle.fb_access.specs.Resolving.{Resolves}
-use Rattle.fb_access.specs.declared.step.Step.{Step}
-use Rattle.fbcheck_calls.specs.declared.{held.Held.Held, held.Held.TheVariants.Schema, held.Held.TheVariants.Room}
-use Rattle.fbcheck_calls.specs.{Asked.published, Asked.root_asked, Marked.IsFirstMark, Marked.plain_text, Placed.IsTextTold}
+use Rattle.fb_access.specs.{Resolving.Resolves, declared.step.Step.Step}
+use Rattle.fbcheck_calls.specs.{Asked.published, Asked.root_asked, Marked.IsFirstMark, Marked.plain_text, Placed.IsTextTold, declared.held.Held.Held}
+use Rattle.fbcheck_calls.specs.declared.held.Held.TheVariants.{Schema, Room}
 
 -- a byte that is printable ASCII
 abbrev pub is_shown : ℕ → Bool

@@ -1,8 +1,7 @@
 -- Texts of paths in which [*] stands for the number of each element.
 use Rattle.std.specs.Prelude.{◌≡◌, ℕ, ◌+◌, ◌<◌, List, ◌∷◌, ◌++◌, drop, length, slice_index, take, Option, Some, None}
 use Rattle.fb_schema.specs.Rows.{Rows}
-use Rattle.fb_access.specs.declared.{step.Step.Step, step.Step.TheVariants.Element}
-use Rattle.fb_access.specs.Resolving.{Resolves}
+use Rattle.fb_access.specs.{Resolving.Resolves, declared.step.Step.Step, declared.step.Step.TheVariants.Element}
 
 -- [*] begins at this place of a text
 pub record HasMark (text : List ℕ) (at : ℕ) : Type 0 where

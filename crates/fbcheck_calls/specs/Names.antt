@@ -1,18 +1,13 @@
 -- Names by their numbers, and how they are copied.
 use Rattle.std.specs.Prelude.{◌≡◌, ◌≢◌, ℕ, nat_le, codes, List, [], ◌∷◌, ◌++◌, drop, length, slice_get, IsSome, Option, Some, None, option_map, if◌then◌else◌}
-use Rattle.fb_schema.specs.Rows.{Rows, table_named}
-use Rattle.fb_rules.specs.Reasons.{reason_number, reason_text}
-use Rattle.fb_rules.specs.declared.fault.Reason.{Reason}
-use Rattle.fb_access.specs.PathCodes.{path_code}
-use Rattle.fb_access.specs.declared.path_fault.PathFault.{PathFault}
+use Rattle.fb_schema.specs.{Rows.Rows, Rows.table_named, declared.fault.Code.Code}
+use Rattle.fb_rules.specs.{Reasons.reason_number, Reasons.reason_text, declared.fault.Reason.Reason}
+use Rattle.fb_access.specs.{PathCodes.path_code, declared.path_fault.PathFault.PathFault}
 use Rattle.fb_access.specs.declared.path_fault.PathFault.TheVariants as path
 use Rattle.fb_bfbs.specs.Codes.{code_text}
 use Rattle.fb_bfbs.specs.declared.load_fault.LoadFault.TheVariants as load
-use Rattle.fb_schema.specs.declared.fault.Code.{Code}
-use Rattle.fbcheck_calls.specs.Told.{code_number, told}
-use Rattle.fbcheck_calls.specs.declared.outcome.Outcome.{Outcome}
-use Rattle.fbcheck_calls.specs.declared.outcome.Outcome.TheVariants.{Bad, BadPath, NoSchema}
-use Rattle.fbcheck_calls.specs.declared.{held.Held.Held, held.Held.TheVariants.Schema, held.Held.TheVariants.Room}
+use Rattle.fbcheck_calls.specs.{Told.code_number, Told.told, declared.outcome.Outcome.Outcome, declared.outcome.Outcome.TheVariants.Bad, declared.outcome.Outcome.TheVariants.BadPath}
+use Rattle.fbcheck_calls.specs.declared.{outcome.Outcome.TheVariants.NoSchema, held.Held.Held, held.Held.TheVariants.Schema, held.Held.TheVariants.Room}
 
 -- no reason has this number
 abbrev pub NumbersNothing : ℕ → Type 0

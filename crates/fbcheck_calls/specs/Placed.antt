@@ -3,9 +3,8 @@ use Rattle.std.specs.Prelude.{◌≡◌, ℕ, List, ◌++◌, drop, length, take
 use Rattle.fb_strict.specs.{AsAsked.StopsAlongBy, Planned.Planned}
 use Rattle.fb_rules.specs.declared.{fault.Fault.Fault, link.Link.Link, start.Ident.Ident}
 use Rattle.fb_access.specs.Location.{location_text}
-use Rattle.fbcheck_calls.specs.declared.{outcome.Outcome.Outcome, outcome.Outcome.TheVariants.Bad, outcome.Outcome.TheVariants.NoRoot, held.Held.Held}
-use Rattle.fbcheck_calls.specs.declared.{held.Held.TheVariants.Schema, held.Held.TheVariants.Room, options.Options.Options}
-use Rattle.fbcheck_calls.specs.{Answered.IsChecked, Answered.Serves, Asked.question_of, Bases.Based}
+use Rattle.fbcheck_calls.specs.{Answered.IsChecked, Answered.Serves, Asked.question_of, Bases.Based, declared.outcome.Outcome.Outcome, declared.outcome.Outcome.TheVariants.Bad}
+use Rattle.fbcheck_calls.specs.declared.{outcome.Outcome.TheVariants.NoRoot, held.Held.Held, held.Held.TheVariants.Schema, held.Held.TheVariants.Room, options.Options.Options}
 
 -- room after as much of a text was copied to its front as there is place for
 abbrev pub cut_to : List ℕ → List ℕ → List ℕ

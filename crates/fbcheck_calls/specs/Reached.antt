@@ -1,15 +1,13 @@
 -- What is answered of a path, and of the values at the ends of paths.
 use Rattle.std.specs.Prelude.{◌≡◌, ℕ, ◌<◌, List, length, Option, None, IsSomeAnd}
 use Rattle.fb_schema.specs.declared.kinds.Kind.TheVariants.{Table}
-use Rattle.fb_access.specs.declared.{path_fault.PathFault.PathFault, step.Step.Step}
-use Rattle.fb_access.specs.{Fitting.StepsFit, Resolving.Resolves, Resolving.Refuses}
+use Rattle.fb_access.specs.{Fitting.StepsFit, Resolving.Resolves, Resolving.Refuses, declared.path_fault.PathFault.PathFault, declared.step.Step.Step}
 use Rattle.fb_bfbs.specs.declared.loading.Loaded.{Loaded}
 use Rattle.fb_rules.specs.Question.{Question}
-use Rattle.fbcheck_calls.specs.declared.{outcome.Outcome.Outcome, held.Held.Held, held.Held.TheVariants.Schema, held.Held.TheVariants.Room}
-use Rattle.fbcheck_calls.specs.declared.{options.Options.Options, steps.PlainPath.PlainPath, values.Value.Value}
-use Rattle.fbcheck_calls.specs.declared.outcome.Outcome.TheVariants.{Done, Good, Bad, UnknownOptions, NoRoot, NoRoom, BadPath, Misfit, TooLong}
 use Rattle.fbcheck_calls.specs.{Answered.IsChecked, Answered.IsUnserved, Answered.Serves, Answered.Starts, Asked.AreKnown, Asked.root_asked, Asked.start_asked, Bases.Based}
-use Rattle.fbcheck_calls.specs.{Marked.IsEach, Marked.IsFirstMark, Marked.plain_text, Steps.AllFit, Steps.IsFirstMisfit, Steps.IsPathOf, Values.AreValues}
+use Rattle.fbcheck_calls.specs.{Marked.IsEach, Marked.IsFirstMark, Marked.plain_text, Steps.AllFit, Steps.IsFirstMisfit, Steps.IsPathOf, Values.AreValues, declared.outcome.Outcome.Outcome}
+use Rattle.fbcheck_calls.specs.declared.{held.Held.Held, held.Held.TheVariants.Schema, held.Held.TheVariants.Room, options.Options.Options, steps.PlainPath.PlainPath, values.Value.Value}
+use Rattle.fbcheck_calls.specs.declared.outcome.Outcome.TheVariants.{Done, Good, Bad, UnknownOptions, NoRoot, NoRoom, BadPath, Misfit, TooLong}
 
 -- the text, with [0] for its first [*], resolves from the root to the steps of the path, of which that one stands for each
 -- element

@@ -1,12 +1,9 @@
 -- How the path of a text comes about.
 use Rattle.std.specs.Prelude.{◌≡◌, ℕ, ◌<◌, List, length, take}
-use Rattle.fb_schema.specs.declared.kinds.Kind.TheVariants.{Table}
-use Rattle.fb_schema.specs.Rows.{Rows}
-use Rattle.fb_access.specs.declared.step.Step.{Step}
-use Rattle.fb_access.specs.{Fitting.StepsFit, Resolving.Resolves, Resolving.Refuses}
-use Rattle.fbcheck_calls.specs.declared.{outcome.Outcome.Outcome, steps.PlainPath.PlainPath}
+use Rattle.fb_schema.specs.{Rows.Rows, declared.kinds.Kind.TheVariants.Table}
+use Rattle.fb_access.specs.{Fitting.StepsFit, Resolving.Resolves, Resolving.Refuses, declared.step.Step.Step}
+use Rattle.fbcheck_calls.specs.{Marked.IsEachAfter, Marked.at_zero, Steps.IsPathOf, declared.outcome.Outcome.Outcome, declared.steps.PlainPath.PlainPath}
 use Rattle.fbcheck_calls.specs.declared.outcome.Outcome.TheVariants.{NoRoom, BadPath}
-use Rattle.fbcheck_calls.specs.{Marked.IsEachAfter, Marked.at_zero, Steps.IsPathOf}
 
 -- the text resolves from the root to the steps of the path, and this holds of them and of the one for each element
 pub record IsPathWith (S : Rows) (root : ℕ) (text : List ℕ) (P : List Step → ℕ → Type 0) (p : PlainPath) : Type 0 where

@@ -1,10 +1,9 @@
 -- Buffers that lie in one block of bytes, and what is answered of each.
 use Rattle.std.specs.Prelude.{◌≡◌, ℕ, ◌+◌, ◌<◌, ◌==◌, ◌⊎◌, ⊤, nat_le, List, [], ◌∷◌, length, take, drop, slice_index_or, Option, Some, None, MatchOption, if◌then◌else◌}
 use Rattle.std.specs.List.{list_all}
-use Rattle.fbcheck_calls.specs.declared.{outcome.Outcome.Outcome, outcome.Verdict.Verdict, options.Options.Options}
-use Rattle.fbcheck_calls.specs.declared.outcome.Outcome.TheVariants.{Done, NoSpan}
-use Rattle.fbcheck_calls.specs.declared.{held.Held.Held, spans.Span.Span}
-use Rattle.fbcheck_calls.specs.{Answered.IfSchema, Answered.IsChecked, Answered.IsUnserved, Answered.Serves, Bases.Based, Told.told}
+use Rattle.fbcheck_calls.specs.{Answered.IfSchema, Answered.IsChecked, Answered.IsUnserved, Answered.Serves, Bases.Based, Told.told, declared.outcome.Outcome.Outcome}
+use Rattle.fbcheck_calls.specs.declared.{outcome.Verdict.Verdict, options.Options.Options, outcome.Outcome.TheVariants.Done, outcome.Outcome.TheVariants.NoSpan, held.Held.Held}
+use Rattle.fbcheck_calls.specs.declared.spans.Span.{Span}
 
 -- the bytes of a block that a span names, if it lies in the block
 abbrev pub cut : List ℕ → Span → Option (List ℕ)

@@ -1,13 +1,11 @@
 -- A path as C has it: steps of a kind and a number.
 use Rattle.std.specs.Prelude.{◌≡◌, ℕ, ◌==◌, ◌<◌, ◌≤◌, nat_le, Bool, true, false, List, ◌++◌, drop, length, replicate, slice_index_or, take, Option, Some, None, IsSomeAnd, if◌then◌else◌}
 use Rattle.std.specs.List.{AllZip}
-use Rattle.fb_schema.specs.declared.{kinds.Kind.Kind, kinds.Kind.TheVariants.Table}
-use Rattle.fb_schema.specs.Rows.{Rows}
+use Rattle.fb_schema.specs.{Rows.Rows, declared.kinds.Kind.Kind, declared.kinds.Kind.TheVariants.Table}
 use Rattle.fb_rules.specs.declared.start.Start.{Start}
-use Rattle.fb_access.specs.declared.{step.Step.Step, step.Step.TheVariants.Field, step.Step.TheVariants.Element, step.Step.TheVariants.Member}
-use Rattle.fb_access.specs.declared.spot.Spot.{Spot}
-use Rattle.fb_access.specs.{Denotes.Reaches, Denotes.root_spot, Fitting.StepsFit, Here.IsOfKind}
-use Rattle.fbcheck_calls.specs.declared.{steps.PlainPath.PlainPath, steps.PlainStep.PlainStep}
+use Rattle.fb_access.specs.{Denotes.Reaches, Denotes.root_spot, Fitting.StepsFit, Here.IsOfKind, declared.step.Step.Step}
+use Rattle.fb_access.specs.declared.{step.Step.TheVariants.Field, step.Step.TheVariants.Element, step.Step.TheVariants.Member, spot.Spot.Spot}
+use Rattle.fbcheck_calls.specs.declared.steps.{PlainPath.PlainPath, PlainStep.PlainStep}
 
 -- the step of this kind and number, if there is one
 abbrev pub step_of : PlainStep → Option Step

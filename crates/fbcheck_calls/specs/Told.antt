@@ -2,8 +2,7 @@
 use Rattle.std.specs.Prelude.{ℕ, min, replicate, Option, Some, None, Result, Ok, Err}
 use Rattle.fb_schema.specs.declared.fault.Code.{Code}
 use Rattle.fb_schema.specs.declared.fault.Code.TheVariants.{NoSuchObject, NoSuchEnum, Unsupported, BadSlot, NoTypeField, BadStruct, BadMember, NameTwice, OutOfMemory as NoMemory}
-use Rattle.fb_rules.specs.declared.fault.{Fault.Fault, Report.Report}
-use Rattle.fb_rules.specs.Reasons.{reason_number}
+use Rattle.fb_rules.specs.{Reasons.reason_number, declared.fault.Fault.Fault, declared.fault.Report.Report}
 use Rattle.fb_access.specs.declared.path_fault.PathFault.{PathFault}
 use Rattle.fb_access.specs.declared.path_fault.PathFault.TheVariants as path
 use Rattle.fb_bytes.specs.declared.stream_fault.StreamFault.{StreamFault}
@@ -11,9 +10,9 @@ use Rattle.fb_bytes.specs.declared.stream_fault.StreamFault.TheVariants as strea
 use Rattle.fb_bfbs.specs.declared.load_fault.LoadFault.{LoadFault}
 use Rattle.fb_bfbs.specs.declared.load_fault.LoadFault.TheVariants as load
 use Rattle.fbcheck_calls.specs.declared.{outcome.Outcome.Outcome, outcome.FieldAt.FieldAt, outcome.Verdict.Verdict, status.Status.Status}
+use Rattle.fbcheck_calls.specs.declared.outcome.Outcome.TheVariants.{Done, Good, Bad, UnknownOptions, OutOfRange, NoIdent, NoRoot, TooLong, NoSchema, NoSpan, BadStream, BadPath, NoRoom}
+use Rattle.fbcheck_calls.specs.declared.outcome.Outcome.TheVariants.{Misfit, NotPlanned, UnmarkedBytes, NoSuchTable, Changed}
 use Rattle.fbcheck_calls.specs.declared.status.Status.TheVariants as status
-use Rattle.fbcheck_calls.specs.declared.outcome.Outcome.TheVariants.{Done, Good, Bad, UnknownOptions, OutOfRange, NoIdent, NoRoot, TooLong, NoSchema, NoSpan}
-use Rattle.fbcheck_calls.specs.declared.outcome.Outcome.TheVariants.{BadStream, BadPath, NoRoom, Misfit, NotPlanned, UnmarkedBytes, NoSuchTable, Changed}
 
 -- the number of a status, as C has it
 abbrev pub number : Status → ℕ

@@ -3,11 +3,9 @@ use Rattle.std.specs.Prelude.{◌≡◌, ℕ, ◌<◌, pos, List, length, slice_
 use Rattle.std.specs.Float.{binary32, binary64}
 use Rattle.fb_schema.specs.Rows.{Rows}
 use Rattle.fb_rules.specs.declared.start.Start.{Start}
-use Rattle.fb_access.specs.declared.{extent.Extent.Extent, spot.Spot.Spot}
+use Rattle.fb_access.specs.{Denotes.Shown, Denotes.value, Extents.extent, declared.extent.Extent.Extent, declared.spot.Spot.Spot}
 use Rattle.fb_access.specs.Denotes as denotes
-use Rattle.fb_access.specs.{Denotes.Shown, Denotes.value, Extents.extent}
-use Rattle.fbcheck_calls.specs.Steps.{EndAt, steps_in}
-use Rattle.fbcheck_calls.specs.declared.{steps.PlainPath.PlainPath, values.Value.Value}
+use Rattle.fbcheck_calls.specs.{Steps.EndAt, Steps.steps_in, declared.steps.PlainPath.PlainPath, declared.values.Value.Value}
 
 -- a kind, and no more
 abbrev pub plain : ℕ → Value

@@ -1,12 +1,10 @@
 -- Steps from a spot on, in bytes that aren't checked.
 use Rattle.std.specs.Prelude.{◌≡◌, ℕ, List, ◌∷◌, ◌++◌, length}
-use Rattle.fb_schema.specs.declared.{kinds.Kind.TheVariants.Table}
-use Rattle.fb_schema.specs.Rows.{Rows}
+use Rattle.fb_schema.specs.{Rows.Rows, declared.kinds.Kind.TheVariants.Table}
 use Rattle.fb_rules.specs.declared.start.Start.{Start}
-use Rattle.fb_access.specs.declared.{step.Step.Step, spot.Spot.Spot}
-use Rattle.fb_access.specs.{Denotes.Reaches, Held.IsSpot, Tested.IsOther, Tested.IsTested}
-use Rattle.fbcheck_calls.specs.declared.{steps.PlainStep.PlainStep, values.Value.Value}
+use Rattle.fb_access.specs.{Denotes.Reaches, Held.IsSpot, Tested.IsOther, Tested.IsTested, declared.step.Step.Step, declared.spot.Spot.Spot}
 use Rattle.fbcheck_calls.specs.{Again.LiesWithin, Each.elements_of, Each.to_element, Steps.AreSteps, Steps.EndAt, Steps.FitFrom, Steps.FitHere, Values.value_at}
+use Rattle.fbcheck_calls.specs.declared.{steps.PlainStep.PlainStep, values.Value.Value}
 
 -- from this spot these steps lead to that one
 abbrev pub LeadTo : List ℕ → Rows → Spot → List PlainStep → Spot → Type 0

@@ -3,8 +3,7 @@
 
 ghost use Rattle.std.specs.Prelude.{◌<◌, ◌^◌, MatchResult, length};
 ghost use Rattle.fb_access.specs.Tested.{IsOther};
-ghost use Rattle.fbcheck_calls.specs.Again.{AreToldBelow, IsReadAgainBy};
-ghost use Rattle.fbcheck_calls.specs.{Steps.AllFit, Values.AreValues};
+ghost use Rattle.fbcheck_calls.specs.{Again.AreToldBelow, Again.IsReadAgainBy, Steps.AllFit, Values.AreValues};
 
 use crate::checking::metered;
 use crate::fits::first_misfit;

@@ -1,13 +1,11 @@
 //! The checks of buffers by a schema.
 
 ghost use Rattle.std.specs.Prelude.{◌≡◌, ◌<◌, ◌≤◌, ◌^◌, IfOk, IfSome, MatchOption, MatchResult, length};
-ghost use Rattle.fb_rules.specs.Question.{Question};
-ghost use Rattle.fb_rules.specs.declared.fault.{Fault.Fault, Report.Report};
+ghost use Rattle.fb_rules.specs.{Question.Question, declared.fault.Fault.Fault, declared.fault.Report.Report};
 ghost use Rattle.fb_verify.specs.Sealed.{Sealed};
 ghost use Rattle.fbcheck_calls.specs.Answered.{Begins, CanBegin, IfSchema, IsChecked, IsPriced, IsTold, IsUnchecked, IsUnserved, Starts, levels};
-ghost use Rattle.fbcheck_calls.specs.{Steps.AllFit, Told.found_by, Told.told, Values.AreValues};
+ghost use Rattle.fbcheck_calls.specs.{Steps.AllFit, Told.found_by, Told.told, Values.AreValues, Reached.IsRead, Reached.IsReadBy, Reached.IsUnread, Reached.StartsRead};
 ghost use Rattle.fbcheck_calls.specs.declared.outcome.Outcome.{Outcome};
-ghost use Rattle.fbcheck_calls.specs.Reached.{IsRead, IsReadBy, IsUnread, StartsRead};
 
 use crate::again::tell_values;
 use crate::basis::Basis;
@@ -18,9 +16,7 @@ use crate::options::{DEEPEST, LONGEST, Options};
 use crate::outcome::{Outcome, Verdict, low, tell_bad, tell_blank, tell_good};
 use crate::status::Status;
 use crate::steps::PlainPath;
-use crate::strict::{
-    check_alone_strictly, check_within_strictly, read_in_strictly, read_shallow_strictly,
-};
+use crate::strict::{read_in_strictly, read_shallow_strictly};
 use crate::values::Value;
 use fb_bfbs::Loaded;
 use fb_bytes::Meter;
@@ -154,7 +150,7 @@ fn walk_alone(basis: &Basis, verdict: &mut Verdict, options: &Options, buffer: &
         Ok(begun) => begun,
         Err(status) => return status,
     };
-    let found = walk(&mut metered(buffer), &begun, &mut [BLANK; 3]);
+    let found = walk(&mut metered(buffer), &begun, &mut [BLANK; 5]);
     tell_found(found, verdict)
 }
 
@@ -180,38 +176,6 @@ fn walk_within(
     tell_found(found, verdict)
 }
 
-/// Checks a buffer whatever the options ask, in room on the call's own stack. It and the next stand apart, so that the
-/// published tests are constants where these are asked.
-#[inline(never)]
-fn check_alone_apart(basis: &Basis, verdict: &mut Verdict, options: &Options, buffer: &[u8]) -> u32
-    ensures told { (a : Outcome) × (verdict.new ≡ told a) × IsChecked basis.now 64 options.now buffer.now a }
-    ensures status { result ≡ verdict.new.status }
-{
-    if options.demands != 0 {
-        return check_alone_strictly(basis, verdict, options, buffer);
-    }
-    walk_alone(basis, verdict, options, buffer)
-}
-
-/// The same in the room that is given.
-#[inline(never)]
-fn check_within_apart(
-    basis: &Basis,
-    room: &mut Room,
-    verdict: &mut Verdict,
-    options: &Options,
-    buffer: &[u8],
-) -> u32
-    ensures told { (a : Outcome) × (verdict.new ≡ told a) × IsChecked basis.now room.old options.now buffer.now a }
-    ensures status { result ≡ verdict.new.status }
-    ensures kept { room.new ≡ room.old }
-{
-    if options.demands != 0 {
-        return check_within_strictly(basis, room, verdict, options, buffer);
-    }
-    walk_within(basis, room, verdict, options, buffer)
-}
-
 /// Checks a buffer by a schema as the options ask, in room on the call's own stack. Writes the verdict, and answers its
 /// status.
 #[inline(never)]
@@ -223,7 +187,7 @@ pub fn check_alone(held: &Held, verdict: &mut Verdict, options: &Options, buffer
         return tell_blank(Status::NoRoot, verdict);
     };
     if !options.ask_published_tests() {
-        return check_alone_apart(basis, verdict, options, buffer);
+        return read_shallow(basis, verdict, options, buffer, &[], &mut []);
     }
     walk_alone(basis, verdict, options, buffer)
 }
@@ -245,7 +209,7 @@ fn check_within(
         return tell_blank(Status::NoRoot, verdict);
     };
     if !options.ask_published_tests() {
-        return check_within_apart(basis, room, verdict, options, buffer);
+        return read_in(basis, room, verdict, options, buffer, &[], &mut []);
     }
     walk_within(basis, room, verdict, options, buffer)
 }
@@ -330,7 +294,10 @@ fn tell_read(
     }
 }
 
-/// Checks a buffer in room on the call's own stack, and tells of a good one the values at the ends of these paths.
+/// Checks a buffer in room on the call's own stack, and tells of a good one the values at the ends of these paths. It and
+/// the next also make all checks without paths but those by the published tests, which so are constants where they are
+/// made.
+#[inline(never)]
 fn read_shallow(
     basis: &Basis,
     verdict: &mut Verdict,
@@ -349,11 +316,12 @@ fn read_shallow(
         Ok(begun) => begun,
         Err(status) => return status,
     };
-    let found = verify(metered(buffer), &begun, &mut [BLANK; 3]);
+    let found = verify(metered(buffer), &begun, &mut [BLANK; 5]);
     tell_read(&found, paths, values, verdict)
 }
 
 /// The same in the room that is given.
+#[inline(never)]
 fn read_in(
     basis: &Basis,
     room: &mut Room,

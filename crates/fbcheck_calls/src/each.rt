@@ -3,7 +3,7 @@
 
 ghost use Rattle.std.specs.Prelude.{◌≡◌, ◌+◌, ◌-◌, ◌<◌, ◌≤◌, ◌∷◌, ◌^◌, ℕ, MatchOption, MatchResult, length};
 ghost use Rattle.fb_access.specs.{Denotes.shown, Held.IsSpot, Tested.IsOther, Tested.IsTested};
-ghost use Rattle.fbcheck_calls.specs.Each.{AreElementsTold, AreFilled, FitsEach, IsCountTold, IsReadOfEachBy, elements_of, to_element};
+ghost use Rattle.fbcheck_calls.specs.{Again.AreFilled, Each.AreElementsTold, Each.FitsEach, Each.IsCountTold, Each.IsReadOfEachBy, Each.elements_of, Each.to_element};
 ghost use Rattle.fbcheck_calls.specs.{Steps.FitHere, Values.value_told, Walks.DontBegin, Walks.IsElementTold, Walks.IsVector};
 
 use crate::checking::metered;

@@ -2,8 +2,7 @@
 
 ghost use Rattle.std.specs.Prelude.{◌≡◌, ◌↔◌, IsTrue, MatchOption, option_map};
 ghost use Rattle.fb_access.specs.Fitting.{next_kind, numbered};
-ghost use Rattle.fb_schema.specs.declared.kinds.Kind.TheVariants.{Table};
-ghost use Rattle.fb_schema.specs.{Live.live_of_view, Members.member_of};
+ghost use Rattle.fb_schema.specs.{Live.live_of_view, Members.member_of, declared.kinds.Kind.TheVariants.Table};
 ghost use Rattle.fbcheck_calls.specs.{Each.FitsEach, Steps.AllFit, Steps.FitFrom, Steps.FitsFrom, Steps.IsFirstMisfit};
 
 use crate::steps::{PlainPath, PlainStep};

@@ -1,8 +1,7 @@
 //! The messages of a stream that comes in pieces, each in room that the caller gives.
 
 ghost use Rattle.std.specs.Prelude.{◌≡◌, ◌+◌, ◌↔◌, ◌≤◌, ◌<◌, ◌^◌, IsTrue, length};
-ghost use Rattle.fb_bytes.specs.Messages.{IsMessage, declared, little};
-ghost use Rattle.fb_bytes.specs.declared.cut.Endian.TheVariants.{Little};
+ghost use Rattle.fb_bytes.specs.{Messages.IsMessage, Messages.declared, Messages.little, declared.cut.Endian.TheVariants.Little};
 ghost use Rattle.fbcheck_calls.specs.Framers.{IsFed, IsFilled, IsFinished, IsKept, IsNext, IsRoom, KeepsNumber, framing};
 
 use crate::outcome::Outcome;

@@ -2,8 +2,7 @@
 
 ghost use Rattle.std.specs.Prelude.{◌≡◌, MatchResult, None, Option, Some, option_map};
 ghost use Rattle.std.specs.Ptr.{null_ptr};
-ghost use Rattle.fbcheck_calls.specs.Answered.{IsRoomMade, IsTaken};
-ghost use Rattle.fbcheck_calls.specs.declared.held.Held.{Held};
+ghost use Rattle.fbcheck_calls.specs.{Answered.IsRoomMade, Answered.IsTaken, declared.held.Held.Held};
 
 use crate::basis::open;
 use crate::detached::Detached;

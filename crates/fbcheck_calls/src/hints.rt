@@ -4,8 +4,7 @@ ghost use Rattle.std.specs.Prelude.{◌≡◌, [], IfSome, IsTrue, List};
 ghost use Rattle.std.specs.List.{list_all};
 ghost use Rattle.fb_schema.specs.Rows.{is_table};
 ghost use Rattle.fb_access.specs.{Resolving.Resolves, declared.step.Step.Step};
-ghost use Rattle.fbcheck_calls.specs.Hinted.{IsHintTold, IsPathFrom, LacksPathHint, LacksRootHint, is_shown};
-ghost use Rattle.fbcheck_calls.specs.Marked.{HasMark, at_zero};
+ghost use Rattle.fbcheck_calls.specs.{Hinted.IsHintTold, Hinted.IsPathFrom, Hinted.LacksPathHint, Hinted.LacksRootHint, Hinted.is_shown, Marked.HasMark, Marked.at_zero};
 
 use crate::held::Held;
 use crate::options::Options;

@@ -1,7 +1,6 @@
 //! What follows from the definitions of answers alone. These functions have no body: their contracts are the theorems.
 
-ghost use Rattle.fbcheck_calls.specs.Again.{GoodStaysRead, ValuesAreOne};
-ghost use Rattle.fbcheck_calls.specs.Each.{GoodStaysReadOfEach, MarkedPathsServe};
+ghost use Rattle.fbcheck_calls.specs.{Again.GoodStaysRead, Again.ValuesAreOne, Each.GoodStaysReadOfEach, Each.MarkedPathsServe};
 ghost use Rattle.fbcheck_calls.specs.AnswerLaws.{BadGetsNo, DemandsArePlanned, GoodGetsYes, LongGetsItsNumber, PlainIsPlain, ValuesStand};
 ghost use Rattle.fbcheck_calls.specs.Names.{FaultsHaveTheirNames, StatusesHaveWords};
 

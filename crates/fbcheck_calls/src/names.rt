@@ -1,12 +1,10 @@
 //! Names by their numbers, copied into room that a caller gives.
 
 ghost use Rattle.std.specs.Prelude.{◌≡◌, ℕ, List, MatchOption, Option, length, option_map};
-ghost use Rattle.fb_access.specs.{Location.field_name, PathCodes.path_code};
-ghost use Rattle.fb_access.specs.declared.path_fault.PathFault.{PathFault};
+ghost use Rattle.fb_access.specs.{Location.field_name, PathCodes.path_code, declared.path_fault.PathFault.PathFault};
 ghost use Rattle.fb_schema.specs.declared.fault.Code.{Code};
 ghost use Rattle.fbcheck_calls.specs.Told.{code_number};
-ghost use Rattle.fbcheck_calls.specs.Names.{IsCodeName, IsFaultName, IsNameTold, IsPathName, IsReasonName, NumbersNothing, filled, held_name, object_name, status_text, table_number};
-ghost use Rattle.fb_rules.specs.Reasons.{reason_number};
+ghost use Rattle.fbcheck_calls.specs.Names.{IsCodeName, IsFaultName, IsNameTold, IsPathName, IsReasonName, filled, held_name, object_name, status_text, table_number};
 
 use crate::fits::live_field;
 use crate::held::Held;
@@ -15,31 +13,6 @@ use fb_access::{PathFault, object_name};
 use fb_bfbs::code_text;
 use fb_schema::{Code, Schema};
 use fb_verify::Reason;
-
-/// The reason of this number.
-pub fn reason_of(number: u32) -> Option<Reason>
-    ensures { MatchOption result (NumbersNothing number) (λ r. reason_number r ≡ number) }
-{
-    match number {
-        1 => Some(Reason::WrongPrefix),
-        2 => Some(Reason::OutOfBuffer),
-        3 => Some(Reason::Misaligned),
-        4 => Some(Reason::ZeroOffset),
-        5 => Some(Reason::WrongIdentifier),
-        6 => Some(Reason::TooDeep),
-        7 => Some(Reason::TooManyTables),
-        8 => Some(Reason::BadVtable),
-        9 => Some(Reason::MissingRequired),
-        10 => Some(Reason::NoTerminator),
-        11 => Some(Reason::LengthsDiffer),
-        12 => Some(Reason::PastTable),
-        13 => Some(Reason::TooManyReads),
-        14 => Some(Reason::FlexContent),
-        15 => Some(Reason::NotUtf8),
-        16 => Some(Reason::UnknownField),
-        _ => None,
-    }
-}
 
 /// The name of the live field with this number, of the table with that one.
 fn field_name<'n>(schema: &Schema<'n>, object: u32, number: u32) -> Option<&'n [u8]>
@@ -74,7 +47,7 @@ pub fn told(name: Option<&[u8]>, room: &mut [u8]) -> usize
 pub fn reason_told(number: u32, room: &mut [u8]) -> usize
     ensures { (name : Option (List ℕ)) × IsReasonName number name × IsNameTold name room.old room.new result }
 {
-    match reason_of(number) {
+    match Reason::of(number) {
         Some(reason) => copied(reason.text().as_bytes(), room),
         None => 0,
     }

@@ -69,8 +69,7 @@ pub struct FieldAt {
 pub struct Verdict {
     /// The number of the answer, which the call returns too.
     pub status: u32,
-    /// The reason's number, 1 to 16, where a buffer or a schema file is refused; where its rows are no schema, their
-    /// code's, 1 to 8; else 0.
+    /// The reason's number where a buffer or a schema file is refused; where its rows are no schema, their code's; else 0.
     pub reason: u32,
     /// With a reason, the number of the object (or the enum, where a member is at fault), and that of the table whose
     /// field keeps demands from being asked; else 0.

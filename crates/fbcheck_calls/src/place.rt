@@ -2,10 +2,8 @@
 
 ghost use Rattle.std.specs.Prelude.{◌≡◌, ◌≤◌, IfErr, MatchResult, length, take};
 ghost use Rattle.fb_access.specs.Location.{location_text};
-ghost use Rattle.fb_verify.specs.Sealed.{Sealed};
-ghost use Rattle.fb_verify.specs.declared.links.Located.{Located};
-ghost use Rattle.fbcheck_calls.specs.{Answered.levels, Told.found_by, Told.told};
-ghost use Rattle.fbcheck_calls.specs.Placed.{IsLocated, IsLocatedBy, IsTextTold, IsUntold, cut_to};
+ghost use Rattle.fb_verify.specs.{Sealed.Sealed, declared.links.Located.Located};
+ghost use Rattle.fbcheck_calls.specs.{Answered.levels, Told.found_by, Told.told, Placed.IsLocated, Placed.IsLocatedBy, Placed.IsTextTold, Placed.IsUntold, Placed.cut_to};
 ghost use Rattle.fbcheck_calls.specs.declared.outcome.Outcome.{Outcome};
 
 use crate::basis::Basis;

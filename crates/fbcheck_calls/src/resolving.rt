@@ -2,8 +2,7 @@
 
 ghost use Rattle.std.specs.Prelude.{◌≡◌, ◌↔◌, ◌<◌, IfOk, IsTrue, MatchResult, length};
 ghost use Rattle.fb_schema.specs.Rows.{is_table};
-ghost use Rattle.fbcheck_calls.specs.Marked.{HasMark, IsFirstMark, at_zero};
-ghost use Rattle.fbcheck_calls.specs.Reached.{IsPath, IsResolved, IsUnresolved};
+ghost use Rattle.fbcheck_calls.specs.{Marked.HasMark, Marked.IsFirstMark, Marked.at_zero, Reached.IsPath, Reached.IsResolved, Reached.IsUnresolved};
 ghost use Rattle.fbcheck_calls.specs.Resolved.{HasNoPath, IsMarkedPath, IsPathFor};
 
 use crate::held::Held;

@@ -2,9 +2,7 @@
 
 ghost use Rattle.std.specs.Prelude.{◌≡◌, ◌==◌, option_map, take};
 ghost use Rattle.std.specs.List.{list_all};
-ghost use Rattle.fbcheck_calls.specs.Answered.{IfSchema, levels};
-ghost use Rattle.fbcheck_calls.specs.Spans.{AreTold, IsSpanTold, IsTried, all_good, cut};
-ghost use Rattle.fbcheck_calls.specs.Told.{told};
+ghost use Rattle.fbcheck_calls.specs.{Answered.IfSchema, Answered.levels, Spans.AreTold, Spans.IsSpanTold, Spans.IsTried, Spans.all_good, Spans.cut, Told.told};
 ghost use Rattle.fbcheck_calls.specs.declared.outcome.Outcome.TheVariants.{Done};
 
 use crate::checking::check;

@@ -1,8 +1,7 @@
 //! A path as C has it.
 
 ghost use Rattle.std.specs.Prelude.{◌≡◌, ◌<◌, MatchOption, Some, length, option_map};
-ghost use Rattle.fbcheck_calls.specs.{Around.IsAround, Each.HasEach};
-ghost use Rattle.fbcheck_calls.specs.Steps.{AreWritten, IsPathOf, step_of, steps_in, steps_said};
+ghost use Rattle.fbcheck_calls.specs.{Around.IsAround, Each.HasEach, Steps.AreWritten, Steps.IsPathOf, Steps.step_of, Steps.steps_in, Steps.steps_said};
 
 use fb_access::Step;
 

@@ -3,12 +3,10 @@
 ghost use Rattle.std.specs.Prelude.{◌≡◌, ◌≢◌, ◌≤◌, IfErr, IfOk, IsSome, MatchResult, Some, length, take};
 ghost use Rattle.fb_access.specs.Location.{location_text};
 ghost use Rattle.fb_rules.specs.declared.fault.Fault.{Fault};
-ghost use Rattle.fb_strict.specs.Planned.{IsPlan};
-ghost use Rattle.fb_strict.specs.declared.strictly.VerifiedStrictly.{VerifiedStrictly};
+ghost use Rattle.fb_strict.specs.{Planned.IsPlan, declared.strictly.VerifiedStrictly.VerifiedStrictly};
 ghost use Rattle.fb_verify.specs.declared.links.Located.{Located};
-ghost use Rattle.fbcheck_calls.specs.{Answered.IsChecked, Asked.plan_asked, Reached.IsRead, Steps.AllFit, Told.found_by, Told.told, Values.AreValues};
-ghost use Rattle.fbcheck_calls.specs.Placed.{IsLocated, IsTextTold, IsUntold};
-ghost use Rattle.fbcheck_calls.specs.declared.outcome.Outcome.{Outcome};
+ghost use Rattle.fbcheck_calls.specs.{Asked.plan_asked, Reached.IsRead, Steps.AllFit, Told.found_by, Told.told, Values.AreValues, Placed.IsLocated, Placed.IsTextTold};
+ghost use Rattle.fbcheck_calls.specs.{Placed.IsUntold, declared.outcome.Outcome.Outcome};
 
 use crate::again::tell_values;
 use crate::basis::Basis;
@@ -34,72 +32,6 @@ fn plan_of<'h>(basis: &'h Basis, options: &Options) -> &'h Plan
         unreachable!()
     };
     plan
-}
-
-/// Writes what a check found, and answers the status.
-fn tell_found(found: &Result<VerifiedStrictly<'_, '_, '_>, Fault>, verdict: &mut Verdict) -> u32
-    ensures told { verdict.new ≡ told (found_by (λ (v : VerifiedStrictly). v.report) (λ (f : Fault). f) found.now) }
-    ensures status { result ≡ verdict.new.status }
-{
-    match found {
-        Ok(strict) => tell_good(strict.report, verdict),
-        Err(fault) => tell_bad(*fault, verdict),
-    }
-}
-
-/// Checks a buffer by the plan for the demands of the options, in room on the call's own stack. Writes the verdict, and
-/// answers its status.
-#[inline(never)]
-pub fn check_alone_strictly(
-    basis: &Basis,
-    verdict: &mut Verdict,
-    options: &Options,
-    buffer: &[u8],
-) -> u32
-    requires demands { options.now.demands ≢ 0 }
-    ensures told { (a : Outcome) × (verdict.new ≡ told a) × IsChecked basis.now 64 options.now buffer.now a }
-    ensures status { result ≡ verdict.new.status }
-{
-    let begun = match prepare(basis, SHALLOW, options, buffer, verdict) {
-        Ok(begun) => begun,
-        Err(status) => return status,
-    };
-    let found = verify_strictly(
-        metered(buffer),
-        &begun,
-        plan_of(basis, options),
-        &mut [BLANK; 3],
-        &mut OnStack,
-    );
-    tell_found(&found, verdict)
-}
-
-/// The same in the room that is given.
-#[inline(never)]
-pub fn check_within_strictly(
-    basis: &Basis,
-    room: &mut Room,
-    verdict: &mut Verdict,
-    options: &Options,
-    buffer: &[u8],
-) -> u32
-    requires demands { options.now.demands ≢ 0 }
-    ensures told { (a : Outcome) × (verdict.new ≡ told a) × IsChecked basis.now room.old options.now buffer.now a }
-    ensures status { result ≡ verdict.new.status }
-    ensures kept { room.new ≡ room.old }
-{
-    let begun = match prepare(basis, room.levels(), options, buffer, verdict) {
-        Ok(begun) => begun,
-        Err(status) => return status,
-    };
-    let found = verify_strictly(
-        metered(buffer),
-        &begun,
-        plan_of(basis, options),
-        room.scratch.lend(),
-        &mut room.pass,
-    );
-    tell_found(&found, verdict)
 }
 
 /// Writes what a check found, with the values at the ends of these paths in a good buffer, and answers the status.

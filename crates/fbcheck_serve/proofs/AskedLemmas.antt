@@ -1,22 +1,19 @@
 -- The root table of the fixed table, and paths that are none.
-use Rattle.std.proofs.Common.{◌≡◌, IfSome, IsTrue, inl, ℕ, List, None, Option, Result, Some, refl, sym, subst}
+use Rattle.std.proofs.Common.{◌≡◌, IfSome, IsTrue, inl, ℕ, List, None, Option, Some, refl, sym, subst}
 use Rattle.std.proofs.KnownBytes.{Keeps-refl}
 use Rattle.std.specs.Prelude.{Err, Ok}
 use Rattle.std.specs.Borrow.{Bor}
-use Rattle.std.specs.declared.alloc.AllocError.{AllocError}
 use Rattle.fb_schema.specs.Rows.{Rows, is_table}
 use Rattle.fb_rules.specs.Bounds.{Bounds}
 use Rattle.fb_strict.specs.Planned.{IsPlan, Planned}
-use Rattle.fb_bfbs.specs.{Fixed.fixed, Loads.IsLoaded, Marks.IsMarksFault}
-use Rattle.fb_bfbs.specs.declared.{load_fault.LoadFault.LoadFault, loading.Loaded.Loaded}
+use Rattle.fb_bfbs.specs.{Fixed.fixed, Loads.IsLoaded, Marks.IsMarksFault, declared.load_fault.LoadFault.LoadFault, declared.loading.Loaded.Loaded}
 use Rattle.fb_bfbs.specs.declared.load_fault.LoadFault.TheVariants as load
 use Rattle.fb_bfbs.proofs.OneLoad.{one_answer as one_load}
 use Rattle.fb_run.specs.Ends.{Ends}
 use Rattle.fbcheck_serve.specs.Asked.{IsAskedPlan, IsFound, Own, asked_root, path_texts}
-use Rattle.fbcheck_serve.specs.Checking.{IsIdle, IsPathless, IsPlanless, IsSchema, LacksJob}
-use Rattle.fbcheck_texts.specs.declared.{fault.AskFault.AskFault, fault.AskFault.TheVariants.NoSuchTable, fault.AskFault.TheVariants.OutOfMemory, fault.AskFault.TheVariants.Path, fault.AskFault.TheVariants.UnmarkedBytes}
-use Rattle.fbcheck_texts.specs.Hints.{fault_with}
-use Rattle.fbcheck_words.specs.declared.choices.Settings.{Settings}
+use Rattle.fbcheck_serve.specs.{Checking.IsIdle, Checking.IsPathless, Checking.IsPlanless, Checking.IsSchema, Checking.LacksJob}
+use Rattle.fbcheck_serve.specs.declared.fault.AskFault.{AskFault, TheVariants.NoSuchTable, TheVariants.OutOfMemory, TheVariants.Path, TheVariants.UnmarkedBytes}
+use Rattle.fbcheck_serve.specs.declared.choices.Settings.{Settings}
 
 -- the table Schema of the fixed table is a table
 pub schema_is_table : (rows : Rows) → rows ≡ fixed → IsTrue (is_table rows 9)
@@ -52,12 +49,6 @@ marks_read b L loaded (load.BadSchema fault) h i other = i
 marks_read b L loaded load.RootNotListed h i other = i
 marks_read b L loaded (load.NotWellFormed fault) h i other = one_load b L (Ok loaded) (Err (load.NotWellFormed fault)) h i
 marks_read b L loaded load.TooLong h i other = one_load b L (Ok loaded) (Err load.TooLong) h i
-
--- a fault with its hint, or want of memory
-pub hinted : {A : Type 0} (file : Option (Bor (List ℕ))) (settings : Settings) (fault told : AskFault) (hint : Result A AllocError) → told ≡ fault_with fault hint → LacksJob file settings fault
-    → LacksJob file settings told
-hinted file settings fault told (Ok h) is lacks = subst (LacksJob file settings) (sym is) lacks
-hinted file settings fault told (Err none) is lacks = subst (LacksJob file settings) (sym is) tt
 
 -- nothing happened
 pub idle : (ends : Ends) → IsIdle ends ends

@@ -3,8 +3,7 @@ use Rattle.std.proofs.Common.{◌≡◌, ℕ, ◌+◌, ◌-◌, Err, List, Ok, a
 use Rattle.fb_run.specs.{Ends.Ends, Ends.Writer, Ends.with_writer, Faults.End, Faults.EndsBeside, Faults.EndsWith, Faults.Failures, Faults.failures_of, Job.Job}
 use Rattle.fb_run.specs.declared.fault.RunFault.{RunFault}
 use Rattle.fb_run.specs.declared.fault.RunFault.TheVariants as run
-use Rattle.fbcheck_serve.specs.Names.{Named}
-use Rattle.fbcheck_serve.specs.Heads.{IsCut, IsHeadPut, IsHeaded, head_of, with_head}
+use Rattle.fbcheck_serve.specs.{Names.Named, Heads.IsCut, Heads.IsHeadPut, Heads.IsHeaded, Heads.head_of, Heads.with_head}
 
 -- the calls that failed, with so many of the writer
 abbrev with_writes : Ends → ℕ → Failures
@@ -30,13 +29,10 @@ pub ends_cut : (before : Ends) (writer : Writer) (turns : ℕ) (head : List ℕ)
 ends_cut before writer turns head (run.WriteFault written) put = (refl, put.1, refl, refl)
 ends_cut before writer turns head _ put = absurd put
 
-module _ (job : Job) (names : List Named) (before : Ends) (head : List ℕ) (writer : Writer) (end : End) (is : head ≡ head_of job names) (put : IsHeadPut head before.outs.writer writer end) where
-  as_job : IsHeadPut (head_of job names) before.outs.writer writer end
-  as_job = subst (λ (h : List ℕ). IsHeadPut h before.outs.writer writer end) is put
+-- what was put is the head of the job, whole or cut
+module _ (job : Job) (names : List Named) (before : Ends) (head : List ℕ) (writer : Writer) (is : head ≡ head_of job names) where
+  pub stands : IsHeadPut head before.outs.writer writer (Ok tt) → IsHeaded job names before (with_writer before writer)
+  stands put = (writer, rw is at put, refl)
 
-  -- what was put is the head of the job, whole or cut
-  pub stands : end ≡ Ok tt → IsHeaded job names before (with_writer before writer)
-  stands whole = (writer, subst (λ (e : End). IsHeadPut (head_of job names) before.outs.writer writer e) whole as_job, refl)
-
-  pub is_cut : (fault : RunFault) → end ≡ Err fault → IsCut (head_of job names) before (with_writer before writer) (Err fault)
-  is_cut fault failed = (subst (λ (e : End). IsHeadPut (head_of job names) before.outs.writer writer e) failed as_job, refl)
+  pub is_cut : (fault : RunFault) → IsHeadPut head before.outs.writer writer (Err fault) → IsCut (head_of job names) before (with_writer before writer) (Err fault)
+  is_cut fault put = (subst (λ (h : List ℕ). IsHeadPut h before.outs.writer writer (Err fault)) is put, refl)

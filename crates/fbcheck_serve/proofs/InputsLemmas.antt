@@ -1,17 +1,13 @@
 -- Files that are gone through one behind another.
-use Rattle.std.proofs.Common.{◌≡◌, ◌∙◌, ℕ, zero, suc, ◌+◌, ◌<◌, ◌≤◌, List, [], ◌∷◌, ◌++◌, Bool, Option, Result, Ok, Err, false, length, take, take_all, drop, drop_of_length-le, drop-cons, get_or, append_assoc, add-one, arith, refl, sym, ap, subst}
-use Rattle.std.proofs.Math.ListN.{set}
-use Rattle.std.proofs.lemmas.List.{append-nil}
+use Rattle.std.proofs.Common.{◌≡◌, ◌∙◌, ℕ, zero, suc, ◌+◌, ◌<◌, ◌≤◌, List, [], ◌∷◌, ◌++◌, Bool, Option, Ok, Err, length, take, take_all, drop, drop_of_length-le, drop-cons, get_or, append_assoc, add-one, arith, refl, sym, ap, subst}
+use Rattle.std.proofs.{Math.ListN.set, lemmas.List.append-nil}
 use Rattle.std.specs.Global.{Global}
 use Rattle.std.specs.Prelude.{Vec, option_map, vec_items}
 use Rattle.fb_schema.specs.Rows.{Rows}
 use mathlib.Core.Logic.{inl}
-use Rattle.fb_run.specs.{Faults.End, Job.Job, Job.job_of}
-use Rattle.fb_run.specs.declared.{fault.RunFault.RunFault, options.Options.Options, run.Ran.Ran}
-use Rattle.std.specs.declared.io.ErrorKind.{ErrorKind}
-use Rattle.fbcheck_serve.specs.Inputs.{ComesOf, Folder, HaltsAmong, IsMissed, Passes, PassesAll, RunsOpened, Seen, Stand, Tries, label_of, with_label, sum_of_counts, sums, are_named}
-use Rattle.fbcheck_serve.specs.Names.{Named, is_standard}
-use Rattle.fbcheck_serve.specs.declared.{inputs.Missed.Missed, inputs.Standard.Standard, inputs.Standard.TheVariants.Unread, inputs.Standard.TheVariants.Spent}
+use Rattle.fb_run.specs.{Faults.End, Job.Job, Job.job_of, declared.fault.RunFault.RunFault, declared.options.Options.Options}
+use Rattle.fbcheck_serve.specs.Inputs.{Folder, HaltsAmong, Passes, PassesAll, Stand, Tries, label_of, with_label, sum_of_counts, sums, are_named}
+use Rattle.fbcheck_serve.specs.{Names.Named, declared.inputs.Standard.Standard, declared.inputs.Standard.TheVariants.Unread, declared.inputs.Standard.TheVariants.Spent}
 
 -- the counts up to a place are added; then those up to the next are
 sums_on : (some more : List ℕ) (i : ℕ) → i < length some → length some ≡ length more
@@ -76,38 +72,14 @@ module _ (folder : Folder) where
 pub next_name : (names : List Named) (i : ℕ) (name : Named) → i < length names → name ≡ get_or names i name → drop i names ≡ name ∷ drop (i + 1) names
 next_name names i name within is = rw (add-one, drop-cons names i name within, ← is) refl
 
--- the label of a name, by what is asked of it
-pub label_by : (named other : Bool) (text bytes : List ℕ) (label : Option (List ℕ)) → label ≡ label_of named text → named ≡ other → text ≡ bytes → label ≡ label_of other bytes
-label_by named other text bytes label is same are = rw (is, same, are) refl
-
--- no calls are no more than may be made
-pub no_more : (n more : ℕ) → n ≤ n + more
-no_more n more = omega arith
-
--- from none on
-pub opened_turns : (from to : ℕ) → from ≡ 0 → to ≤ from + 4294967296 → to ≤ 4294967296
-opened_turns from to none le = subst (λ n. to ≤ n + 4294967296) none le
-
-pub unread_spent : (s : Standard) → s ≡ Unread → s ≡ Spent → ⊥
-unread_spent s unread spent = let both : Unread ≡ Spent = sym unread ∙ spent in cc
-
 -- calls of the reader that standard input is
 pub turns_on : {S : Type 0} (calls : S → ℕ) (old new : Standard) (first before after : S) → (old ≡ Unread → before ≡ first) → (old ≡ Spent → (new ≡ Spent) × (after ≡ before))
     → calls after ≤ calls before + 4294967296 → calls before ≤ calls first + 4294967296 → calls after ≤ calls first + 4294967296
 turns_on calls Unread new first before after kept spent now then = subst (λ s. calls after ≤ calls s + 4294967296) (kept refl) now
 turns_on calls Spent new first before after kept spent now then = subst (λ s. calls s ≤ calls first + 4294967296) (sym (spent refl).1) then
 
--- what is asked, with another label
-pub relabelled : (rows : Rows) (options : Options) (job : Job) (label : Option (Vec ℕ Global)) (old text : Option (List ℕ)) → job_of rows options ≡ with_label old job
-    → option_map vec_items label ≡ text → job_of rows (record options { label = label }) ≡ with_label text job
-relabelled rows options job label old text is same =
-    ap (λ (j : Job). with_label (option_map vec_items label) j) is ∙ ap (λ (t : Option (List ℕ)). with_label t job) same
-
--- what a file came to: a run over what was opened, or none
-pub comes_opened : (folder : Folder) (job : Job) (name : Named) (standard : Standard) (before after : Seen) (what : Result Ran Missed) (cause : Option ErrorKind) (ran : Ran) → what ≡ Ok ran
-    → is_standard name ≡ false → RunsOpened folder job name before after ran cause → ComesOf folder job name standard before after what cause
-comes_opened folder job name standard before after what cause ran is other runs = subst (λ w. ComesOf folder job name standard before after w cause) (sym is) (rw other runs)
-
-pub comes_missed : (folder : Folder) (job : Job) (name : Named) (standard : Standard) (seen : Seen) (what : Result Ran Missed) (cause : Option ErrorKind) (missed : Missed) → what ≡ Err missed
-    → IsMissed folder name standard missed → ComesOf folder job name standard seen seen what cause
-comes_missed folder job name standard seen what cause missed is why = subst (λ w. ComesOf folder job name standard seen seen w cause) (sym is) (why, refl)
+-- what is asked, with another label: that of a name, by what is asked of it
+pub relabelled : (rows : Rows) (options : Options) (job : Job) (label : Option (Vec ℕ Global)) (old : Option (List ℕ)) (named other : Bool) (text bytes : List ℕ) → job_of rows options ≡ with_label old job
+    → option_map vec_items label ≡ label_of named text → named ≡ other → text ≡ bytes → job_of rows (record options { label = label }) ≡ with_label (label_of other bytes) job
+relabelled rows options job label old named other text bytes is label_is same are =
+    ap (λ (j : Job). with_label (option_map vec_items label) j) is ∙ ap (λ (t : Option (List ℕ)). with_label t job) (rw (label_is, same, are) refl)

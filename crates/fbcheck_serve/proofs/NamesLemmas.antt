@@ -1,11 +1,10 @@
 -- Names that are words, and names in a list.
-use Rattle.std.proofs.Common.{◌≡◌, ◌∙◌, ◌≢◌, ℕ, suc, ◌+◌, ◌<◌, false, List, [], ◌∷◌, ◌++◌, length, drop, drop-cons, get_or, add-one, append_assoc, append-nil, refl, sym, ap}
+use Rattle.std.proofs.Common.{◌≡◌, ◌∙◌, ℕ, List, [], ◌∷◌, ◌++◌, append_assoc, append-nil, refl, sym, ap}
 use Rattle.std.proofs.lemmas.{Bool.false_from_ne_true, Bool.ne_eqb, Str.IsUtf8-from_is_utf8, Str.is_utf8-from_IsUtf8}
-use Rattle.std.specs.Prelude.{◌==◌, None, Some}
+use Rattle.std.specs.Prelude.{None, Some}
 use Rattle.std.specs.Str.{IsUtf8, is_utf8}
+use Rattle.fbcheck_serve.specs.{CheckLaws.AreNamesAsWritten, CheckLaws.IsUnbroken, CheckLaws.spelled, Names.last_name, Names.listed_from, Names.listed_name, Names.wrong_text}
 use Rattle.fbcheck_serve.specs.declared.names.Misnomer.TheVariants.{NotText}
-use Rattle.fbcheck_serve.specs.CheckLaws.{AreNamesAsWritten, IsUnbroken, spelled}
-use Rattle.fbcheck_serve.specs.Names.{Named, last_name, listed_from, listed_name, wrong_text}
 
 -- bytes that are a text, and bytes that are none
 pub text_right : (text bytes : List ℕ) → text ≡ bytes → IsUtf8 text → wrong_text bytes ≡ None
@@ -13,25 +12,6 @@ text_right text bytes are is = rw (← are, is_utf8-from_IsUtf8 text is) refl
 
 pub no_text : (text bytes : List ℕ) → text ≡ bytes → (IsUtf8 text → ⊥) → wrong_text bytes ≡ Some NotText
 no_text text bytes are isnt = rw (← are, false_from_ne_true (is_utf8 text) (λ yes. isnt (IsUtf8-from_is_utf8 text yes))) refl
-
--- a byte that ends a name, and one that is a part of it
-pub name_ended : (list front : List ℕ) (names : List Named) (whole : List Named) (i b : ℕ) → i < length list → b ≡ get_or list i 0 → b ≡ 0
-    → whole ≡ names ++ listed_from front (drop i list) → whole ≡ (names ++ (listed_name front ∷ [])) ++ listed_from [] (drop (i + 1) list)
-name_ended list front names whole i b within is zero are =
-    are ∙ ap (λ l. names ++ listed_from front l) (drop-cons list i 0 within) ∙ rw (← is, zero, add-one, append_assoc names (listed_name front ∷ []) (listed_from [] (drop (suc i) list))) refl
-
-pub name_grown : (list front : List ℕ) (names : List Named) (whole : List Named) (i b : ℕ) → i < length list → b ≡ get_or list i 0 → (b == 0) ≡ false
-    → whole ≡ names ++ listed_from front (drop i list) → whole ≡ names ++ listed_from (front ++ (b ∷ [])) (drop (i + 1) list)
-name_grown list front names whole i b within is other are =
-    are ∙ ap (λ l. names ++ listed_from front l) (drop-cons list i 0 within) ∙ rw (← is, other, add-one) refl
-
--- the last
-pub last_ended : (front : List ℕ) (names whole : List Named) → front ≢ [] → whole ≡ names ++ last_name front → whole ≡ names ++ (listed_name front ∷ [])
-last_ended [] names whole some are = absurd (some refl)
-last_ended (a ∷ front) names whole some are = are
-
-pub none_left : (front : List ℕ) (names whole : List Named) → front ≡ [] → whole ≡ names ++ last_name front → whole ≡ names
-none_left front names whole none are = are ∙ rw none (append-nil names)
 
 -- a name up to the byte that ends it, and one up to the end
 read_ended : (front name list : List ℕ) → IsUnbroken name → listed_from front (name ++ (0 ∷ list)) ≡ listed_name (front ++ name) ∷ listed_from [] list

@@ -1,21 +1,14 @@
 -- Two texts that are noted one behind the other, the line that tells a fault, and the one that tells a bound.
-use Rattle.std.proofs.Common.{◌≡◌, ◌∙◌, ℕ, ◌+◌, ◌<◌, ◌≤◌, Bool, true, false, List, ◌++◌, Option, ap, subst, sym, length, take, arith}
+use Rattle.std.proofs.Common.{◌≡◌, ◌∙◌, ℕ, ◌+◌, ◌<◌, ◌≤◌, false, List, ◌++◌, Option, ap, length, take, arith}
 use mathlib.Core.Logic.{inl, inr}
 use Rattle.std.specs.{Io.KnownBytes.Appends, Global.Global, Prelude.String}
-use Rattle.std.proofs.{KnownBytes.Appends-trans, KnownBytes.Keeps-refl, Math.Nat.eq-or-lt_of_le, Math.Seq.take-append-add, Math.Seq.take-length}
-use Rattle.std.proofs.Common.{Err, None, refl, codes}
-use Rattle.std.proofs.lemmas.List.{length-append}
-use Rattle.fbcheck_texts.specs.declared.causes.Causes.{Causes}
+use Rattle.std.proofs.{KnownBytes.Appends-trans, Math.Nat.eq-or-lt_of_le, Math.Seq.take-append-add, Math.Seq.take-length, lemmas.List.length-append}
+use Rattle.std.proofs.Common.{None, refl, codes}
+use Rattle.fbcheck_serve.specs.{FaultJson.fault_object, Inputs.IsNoted, Serving.IsBehindStop, Serving.IsStopLine, Serving.TellsStop, Serving.stop_status, Serving.stop_text}
+use Rattle.fbcheck_serve.specs.declared.{causes.Causes.Causes, stop.EarlyEnd.EarlyEnd}
 use Rattle.fb_bytes.specs.Ends.{one_more}
-use Rattle.fb_run.specs.Ends.{Writer}
-use Rattle.fb_run.specs.declared.{options.LineForm.LineForm, options.LineForm.TheVariants.Json, tally.Tally.Tally}
-use Rattle.fbcheck_texts.proofs.FaultJsonLemmas.{object_in, plain_in}
-use Rattle.fbcheck_texts.specs.FaultJson.{fault_object}
-use Rattle.fbcheck_texts.specs.Texts.{stopped_text}
-use Rattle.fbcheck_texts.specs.declared.framing.Manner.{Manner}
-use Rattle.fbcheck_serve.specs.Inputs.{IsHintLine, IsNoted, IsStopOf}
-use Rattle.fbcheck_serve.specs.Serving.{Complains, IsBehindStop, IsEndLine, IsStopLine, IsStopTold, TellsStop, is_quiet, stop_status, stop_text}
-use Rattle.fbcheck_serve.specs.declared.{stop.Ending.Ending, stop.Ending.TheVariants.Checked, stop.EarlyEnd.EarlyEnd}
+use Rattle.fb_run.specs.{Ends.Writer, declared.options.LineForm.LineForm, declared.options.LineForm.TheVariants.Json}
+use Rattle.fbcheck_serve.proofs.FaultJsonLemmas.{object_in, plain_in}
 use Rattle.fbcheck_serve.specs.declared.stop.EarlyEnd.TheVariants as stop
 
 -- the first text stands written, and the second whole or in part
@@ -55,25 +48,3 @@ pub line_told : (form : LineForm) (causes : Causes) (fault : EarlyEnd) (before a
     → IsBehindStop fault hint → text ≡ stop_text causes fault → IsNoted ((codes "fbcheck: " ++ text) ++ hint) before after → TellsStop false form causes fault before after
 line_told form causes fault before after text hint other is told noted =
     own_line form causes fault before after other hint _ is (plain_in form _ _ _ (ap (λ (t : List ℕ). (codes "fbcheck: " ++ t) ++ hint) told)) noted
-
--- a stop that isn't quiet is told
-pub told_aloud : (form : LineForm) (causes : Causes) (fault : EarlyEnd) (before after : Writer) (quiet : Bool) → quiet ≡ is_quiet causes fault → quiet ≡ false
-    → TellsStop false form causes fault before after → Complains form causes (Err fault) before after
-told_aloud form causes fault before after quiet is loud tells = subst (λ (b : Bool). TellsStop b form causes fault before after) (sym loud ∙ is) tells
-
--- one that is quiet leaves the notes as they are
-pub kept_quiet : (form : LineForm) (causes : Causes) (fault : EarlyEnd) (before : Writer) (quiet : Bool) → quiet ≡ is_quiet causes fault → quiet ≡ true
-    → Complains form causes (Err fault) before before
-kept_quiet form causes fault before quiet is silent =
-    subst (λ (b : Bool). TellsStop b form causes fault before before) (sym silent ∙ is) (Keeps-refl before.bytes, refl)
-
--- where as many messages were bad as may be, the line that was noted says so: of a file, and of the program's input
-pub file_stopped : (form : LineForm) (most : ℕ) (name : List ℕ) (tally : Tally) (before after : Writer) (text line : List ℕ) → most ≤ tally.no → text ≡ stopped_text most
-    → IsHintLine form name text line → IsNoted line before after → IsStopOf form most name tally before after
-file_stopped form most name tally before after text line many is told noted =
-    (λ few. absurd (omega (arith, few, many)), λ _. (line, subst (λ (t : List ℕ). IsHintLine form name t line) is told, noted))
-
-pub input_stopped : (form : LineForm) (ending : Ending) (tally : Tally) (manner : Manner) (before after : Writer) (text line : List ℕ) → ending ≡ Checked tally manner
-    → manner.most_bad ≤ tally.no → text ≡ stopped_text manner.most_bad → IsEndLine form text line → IsNoted line before after → IsStopTold form ending before after
-input_stopped form ending tally manner before after text line ends many is told noted =
-    rw ends (λ few. absurd (omega (arith, few, many)), λ _. (line, subst (λ (t : List ℕ). IsEndLine form t line) is told, noted))

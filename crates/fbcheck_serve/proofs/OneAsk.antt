@@ -3,29 +3,21 @@ use Rattle.std.proofs.Common.{◌≡◌, ℕ, List, [], ◌∷◌, refl, sym, �
 use mathlib.Core.Logic.{inl, inr}
 use Rattle.std.specs.{Borrow.Bor, Global.Global, Prelude.Vec}
 use Rattle.fb_schema.specs.Rows.{Rows}
-use Rattle.fb_access.specs.declared.{step.Step.Step, path_fault.PathFault.PathFault}
-use Rattle.fb_access.specs.Resolving.{IsFault, Resolves}
+use Rattle.fb_access.specs.{declared.step.Step.Step, declared.path_fault.PathFault.PathFault, Resolving.IsFault, Resolving.Resolves}
 use Rattle.fb_access.proofs.OneAnswer.{one_answer}
 use Rattle.fb_rules.specs.declared.start.Ident.{Ident}
 use Rattle.fb_run.specs.{Job.Job, Job.job_of, Wanted.Wanted}
-use Rattle.fb_bfbs.proofs.OneLoad.{one_answer as one_load}
-use Rattle.fb_bfbs.proofs.OneMarks.{marks_once}
-use Rattle.fb_bfbs.specs.{ByteFields.HasUnmarked, Marks.Marked, Marks.marked as seen_mark}
-use Rattle.fb_bfbs.specs.declared.marks.Builtins.{Builtins}
-use Rattle.fb_bfbs.specs.declared.load_fault.LoadFault.{LoadFault}
+use Rattle.fb_bfbs.proofs.{OneLoad.one_answer as one_load, OneMarks.marks_once}
+use Rattle.fb_bfbs.specs.{ByteFields.HasUnmarked, Marks.Marked, Marks.marked as seen_mark, declared.marks.Builtins.Builtins, declared.load_fault.LoadFault.LoadFault}
 use Rattle.fb_bfbs.specs.declared.load_fault.LoadFault.TheVariants as load
-use Rattle.fb_bfbs.specs.LoadLaws.{Applies, IsSameLoad, ident_bytes}
-use Rattle.fb_bfbs.specs.declared.loading.Loaded.{Loaded}
-use Rattle.fb_strict.specs.{Planned.IsPlan, Planned.Planned}
+use Rattle.fb_bfbs.specs.{LoadLaws.Applies, LoadLaws.IsSameLoad, LoadLaws.ident_bytes, declared.loading.Loaded.Loaded}
+use Rattle.fb_strict.specs.Planned.{IsPlan, Planned}
 use Rattle.fb_strict.proofs.Marks.{one_plan}
-use Rattle.fbcheck_serve.specs.Asked.{ArePaths, AsksBy, IsAsked, IsAskedPlan, demanded, demanded_by, IsFound, IsPath, LacksIdent, IsPathFault, HasPathFault, Own, asked_root, options_of, own_label, path_texts}
-use Rattle.fbcheck_serve.specs.Inputs.{with_label}
-use Rattle.fbcheck_serve.specs.CheckLaws.{AsksOnce}
-use Rattle.fbcheck_serve.specs.{ByteFields.has_lost, FileMarks.ArePlanMarks, FileMarks.IsMarkedFile, FileMarks.schema_limits}
-use Rattle.fbcheck_serve.specs.Checking.{AsksMarks, HasLostMark, HasUnmarkedBytes, MayAsk, IsSchema, IsNoSchema, own_of}
-use Rattle.fbcheck_words.specs.declared.choices.Settings.{Settings}
-use Rattle.fbcheck_texts.specs.declared.fault.AskFault.{AskFault}
-use Rattle.fbcheck_texts.specs.declared.fault.AskFault.TheVariants.{Load, Path, NoRoot, NoIdent, UnmarkedBytes, NoSuchTable, OutOfMemory}
+use Rattle.fbcheck_serve.specs.Asked.{ArePaths, AsksBy, IsAsked, IsAskedPlan, demanded, demanded_by, IsFound, IsPath, LacksIdent, IsPathFault, HasPathFault, Own, asked_root}
+use Rattle.fbcheck_serve.specs.{Asked.options_of, Asked.own_label, Asked.path_texts, Inputs.with_label, CheckLaws.AsksOnce, ByteFields.has_lost, FileMarks.ArePlanMarks}
+use Rattle.fbcheck_serve.specs.{FileMarks.IsMarkedFile, FileMarks.schema_limits, Checking.AsksMarks, Checking.HasLostMark, Checking.HasUnmarkedBytes, Checking.MayAsk}
+use Rattle.fbcheck_serve.specs.{Checking.IsSchema, Checking.IsNoSchema, Checking.own_of, declared.choices.Settings.Settings, declared.fault.AskFault.AskFault}
+use Rattle.fbcheck_serve.specs.declared.fault.AskFault.TheVariants.{Load, Path, NoRoot, NoIdent, UnmarkedBytes, NoSuchTable, OutOfMemory}
 
 module _ (rows : Rows) (root : ℕ) where
   one_path : (text : List ℕ) (x y : Wanted) → IsPath rows root text x → IsPath rows root text y → x ≡ y

@@ -1,19 +1,15 @@
 -- Texts that name paths, one after another.
-use Rattle.std.proofs.Common.{◌≡◌, ℕ, ◌+◌, ◌<◌, suc, List, [], ◌∷◌, ◌++◌, length, take, drop, drop-cons, get_or, map, Result, Ok, Err, refl, sym, ap, ◌∙◌, take-append-drop}
+use Rattle.std.proofs.Common.{◌≡◌, ℕ, ◌+◌, ◌<◌, suc, List, [], ◌∷◌, ◌++◌, length, take, drop, drop-cons, get_or, map, refl, sym, ap, ◌∙◌, take-append-drop}
 use mathlib.Core.Logic.{inl, inr}
 use Rattle.std.specs.Prelude.{String, string_bytes}
-use Rattle.std.specs.declared.alloc.AllocError.{AllocError}
 use Rattle.std.specs.Global.{Global}
 use Rattle.std.proofs.lemmas.List.{map-append, take_more}
-use Rattle.fb_access.specs.Resolving.{IsFault}
-use Rattle.fb_access.specs.declared.path_fault.PathFault.{PathFault}
+use Rattle.fb_access.specs.{Resolving.IsFault, declared.path_fault.PathFault.PathFault}
 use Rattle.fb_schema.specs.Rows.{Rows}
 use Rattle.fb_run.specs.Wanted.{Wanted}
 use Rattle.fb_run.proofs.FoundLemmas.{both_more}
-use Rattle.fbcheck_serve.specs.Asked.{ArePaths, IsPath, IsPathFault, PathFails}
-use Rattle.fbcheck_serve.specs.Checking.{IsPathless}
-use Rattle.fbcheck_texts.specs.Hints.{fault_with}
-use Rattle.fbcheck_texts.specs.declared.{fault.AskFault.AskFault, fault.AskFault.TheVariants.OutOfMemory, fault.AskFault.TheVariants.Path}
+use Rattle.fbcheck_serve.specs.{Asked.ArePaths, Asked.IsPath, Asked.IsPathFault, Asked.PathFails, Checking.IsPathless, declared.fault.AskFault.AskFault}
+use Rattle.fbcheck_serve.specs.declared.fault.AskFault.TheVariants.{OutOfMemory, Path}
 
 module _ (rows : Rows) (root : ℕ) where
   -- the next text fails, behind those that name paths
@@ -22,12 +18,6 @@ module _ (rows : Rows) (root : ℕ) where
   fails_at [] paths text after fault h is = inl is
   fails_at (t ∷ before) [] text after fault h is = absurd h
   fails_at (t ∷ before) (p ∷ paths) text after fault h is = inr (p.steps, h.0.1, fails_at before paths text after fault h.1 is)
-
-  -- with a hint, or for want of memory without one
-  pub pathless : {A : Type 0} (texts : List (List ℕ)) (fault told : AskFault) (hint : Result A AllocError) → told ≡ fault_with fault hint → IsPathless rows root texts fault
-      → IsPathless rows root texts told
-  pathless texts fault told (Ok hint) is lacks = rw is lacks
-  pathless texts fault told (Err none) is lacks = rw is tt
 
   module _ (texts : List (String Global)) (i : ℕ) (text : String Global) (inside : i < length texts) (is : text ≡ get_or texts i text) where
     all_texts : map string_bytes texts ≡ map string_bytes (take i texts) ++ string_bytes text ∷ map string_bytes (drop (suc i) texts)

@@ -1,50 +1,41 @@
 -- What the program comes to.
-use Rattle.std.proofs.Common.{codes, ◌+◌, ◌≡◌, ◌≢◌, ◌==◌, ◌≤◌, ◌∙◌, arith, ℕ, Bool, true, false, true≢false, List, [], ◌∷◌, Option, Some, None, Result, Ok, Err, ap, length, refl, take, sym, subst}
+use Rattle.std.proofs.Common.{◌+◌, ◌≡◌, ◌≢◌, ◌==◌, ◌≤◌, ◌∙◌, arith, ℕ, Bool, true, false, true≢false, List, [], Option, Some, None, Result, Ok, Err, ap, length, refl, take, sym, subst}
 use Rattle.fb_rules.specs.Reasons.{reason_count}
 use mathlib.Core.Logic.{inl, inr}
-use Rattle.std.specs.{Borrow.Bor, Io.KnownBytes.Appends, Result.OnErr, declared.alloc.AllocError.AllocError, declared.io.ErrorKind.ErrorKind}
-use Rattle.std.specs.Prelude.{if◌then◌else◌, IfOk, IfSome, String, Vec, map, option_map, string_bytes, vec_items}
-use Rattle.std.proofs.{KnownBytes.Keeps-refl, Math.Seq.take-length}
-use Rattle.std.proofs.lemmas.{Bool.eq-eqb, Bool.eqb-true, List.length-map, List.nil_from_length}
-use Rattle.clap.specs.{Faults.fault_of, Walk.Text}
-use Rattle.fbcheck_words.specs.{CommandLine.program, Given.AreGiven, Refusal.Refuses, Values.text_of, Values.values_of}
-use Rattle.fbcheck_serve.specs.Checking.{IsPromptAmongAsked, IsPromptAsAsked, IsPromptOverAsked, MayReadAsked}
-use Rattle.fbcheck_serve.specs.Keeping.{IsCheckedKeeping, IsServedKeeping, Maker}
-use Rattle.fbcheck_serve.specs.declared.check.Kept as check
-use Rattle.fbcheck_serve.specs.declared.check.Unbegun.{Unbegun}
-use Rattle.fbcheck_serve.specs.declared.check.Unbegun.TheVariants as unbegun
-use Rattle.fbcheck_texts.specs.Faults.{IsFile, HasFileFault}
-use Rattle.fbcheck_texts.specs.declared.{fault.FileFault.FileFault, fault.WordsFault.WordsFault, framing.By.By, framing.Manner.Manner}
-use Rattle.fbcheck_serve.specs.Lists.{AreNamed, HasListFault, IsList, named_by}
-use Rattle.fbcheck_serve.specs.Names.{Named, listed_names, word_names}
-use Rattle.fbcheck_serve.specs.Inputs.{Folder, Seen, with_cause}
+use Rattle.std.specs.{Borrow.Bor, Io.KnownBytes.Appends, Result.OnErr, declared.io.ErrorKind.ErrorKind}
+use Rattle.std.specs.Prelude.{if◌then◌else◌, IfOk, IfSome, String, map, option_map, string_bytes}
+use Rattle.std.proofs.{KnownBytes.Keeps-refl, Math.Seq.take-length, lemmas.Bool.eq-eqb, lemmas.Bool.eqb-true, lemmas.List.length-map, lemmas.List.nil_from_length}
+use Rattle.clap.specs.Walk.{Text}
+use Rattle.fbcheck_serve.specs.{Given.AreGiven, Refusal.Refuses, Checking.IsPromptAmongAsked, Checking.IsPromptAsAsked, Checking.IsPromptOverAsked, Checking.MayReadAsked}
+use Rattle.fbcheck_serve.specs.{Keeping.IsCheckedKeeping, Keeping.IsServedKeeping, Keeping.Maker, Faults.IsFile, Lists.AreNamed, Names.Named, Inputs.Folder, Inputs.Seen}
+use Rattle.fbcheck_serve.specs.{Inputs.with_cause, Serving.ChecksAsAsked, Serving.ComesAsAsked, Serving.ComesBy, Serving.IsAlone, Serving.IsNameless, Serving.EndsFiles}
+use Rattle.fbcheck_serve.specs.Serving.{EndsRun, EndsSo, HoldsAsGiven, MayReadAsGiven, PassesAsAsked, Rests, SumsUp, TellsIn, IsFormOf, Unserved, files_ending, is_set, lent_bytes}
+use Rattle.fbcheck_serve.specs.{Serving.run_ending, Serving.summed, Serving.unbegun_stop, declared.check.Unbegun.Unbegun, declared.framing.By.By, declared.framing.Manner.Manner}
+use Rattle.fbcheck_serve.specs.declared.{choices.Settings.Settings, choices.SettingsFault.SettingsFault, stop.Ending.Ending, stop.Ending.TheVariants.Helped, stop.EarlyEnd.EarlyEnd}
+use Rattle.fbcheck_serve.specs.declared.{stop.Sums.Sums, inputs.Course.Course}
 use Rattle.fb_run.specs.{Ends.Ends, Ends.Reader, Ends.Writer, Ends.beside, Ends.nowhere, Ends.with_rejects, Faults.End, Faults.EndsBeside, JsonSums.summary_in, Leave.ends_of}
 use Rattle.fb_run.specs.declared.run.Ran.{Ran}
 use Rattle.fb_bytes.specs.declared.stream_fault.StreamFault.TheVariants as stream
 use Rattle.fb_run.specs.declared.fault.RunFault.TheVariants as run
-use Rattle.fbcheck_serve.specs.Serving.{ChecksAsAsked, ComesAsAsked, ComesBy, ComesTo, IsAlone, IsNameless, EndsFiles, EndsRun, EndsSo, HoldsAsGiven, IsPromptAsGiven, MayReadAsGiven, PassesAsAsked, Rests, SumsUp, TellsAsGiven, TellsIn, IsFormOf, Unserved}
-use Rattle.fbcheck_serve.specs.Serving.{files_ending, is_set, lent_bytes, run_ending, summed, unbegun_stop, words_of}
 use Rattle.fbcheck_serve.proofs.AskedLemmas.{idle}
-use Rattle.fbcheck_serve.specs.declared.inputs.Passed as inputs
 use Rattle.fb_run.specs.declared.input.Input as input
 use Rattle.fb_bytes.specs.declared.ends.Sink as sink
-use Rattle.fbcheck_words.specs.declared.choices.SettingsFault.TheVariants as refusal
-use Rattle.fbcheck_words.specs.declared.{choices.Settings.Settings, choices.SettingsFault.SettingsFault}
 use Rattle.fb_run.specs.declared.{options.LineForm.LineForm, options.LineForm.TheVariants.Plain, tally.Tally.Tally}
-use Rattle.fbcheck_serve.specs.declared.{stop.Ending.Ending, inputs.Course.Course, stop.Ending.TheVariants.Helped}
-use Rattle.fbcheck_serve.specs.declared.{stop.EarlyEnd.EarlyEnd, stop.Sums.Sums}
+use Rattle.fbcheck_serve.specs.declared.check.Kept as check
+use Rattle.fbcheck_serve.specs.declared.check.Unbegun.TheVariants as unbegun
+use Rattle.fbcheck_serve.specs.declared.inputs.Passed as inputs
+use Rattle.fbcheck_serve.specs.declared.choices.SettingsFault.TheVariants as refusal
 use Rattle.fbcheck_serve.specs.declared.stop.EarlyEnd.TheVariants as stop
 
 module _ (folder : Folder) where
   -- what holds by the settings, and by what a read of the file of the words gave
-  holds_given : (given : List Text) (settings : Settings) (file : Option (Bor (List ℕ))) (bytes : Option (List ℕ)) (Holds : Option (Bor (List ℕ)) → Settings → Type 0)
+  pub holds_given : (given : List Text) (settings : Settings) (file : Option (Bor (List ℕ))) (bytes : Option (List ℕ)) (Holds : Option (Bor (List ℕ)) → Settings → Type 0)
       → AreGiven given settings → lent_bytes file ≡ bytes → IsFile folder.gives (option_map string_bytes settings.schema) bytes → Holds file settings → HoldsAsGiven folder given Holds
   holds_given given settings file bytes Holds are lent is holds = record {
     settings = settings;
     file = file;
     are_given = are;
-    is_file = subst (λ (t : Option Text). IsFile folder.gives t (lent_bytes file)) are.said.schema
-        (subst (λ (b : Option (List ℕ)). IsFile folder.gives (option_map string_bytes settings.schema) b) (sym lent) is);
+    is_file = rw (← are.said.schema, lent) is;
     holds = holds;
   }
 
@@ -58,29 +49,10 @@ module _ (folder : Folder) where
       → IsPromptAmongAsked folder file settings names before now → IsPromptOverAsked folder file settings before now
   prompt_among file settings names before now are (job, asks, rejects, rejects', (headed, head, among)) = (Some names, job, are, asks, rejects, rejects', headed, head, among)
 
-  -- the words could be read
-  prompt_read : {A B : Type 0} (given : Result (Vec (String A) B) WordsFault) (words : Vec (String A) B) (slice : List (String A)) (before now : Ends)
-      → given ≡ Ok words → slice ≡ vec_items words → IsPromptAsGiven folder (Ok (map string_bytes slice)) before now → IsPromptAsGiven folder (words_of given) before now
-  prompt_read {A} {B} given words slice before now is same prompt =
-      subst (λ (g : Result (Vec (String A) B) WordsFault). IsPromptAsGiven folder (words_of g) before now) (sym is)
-      (subst (λ (l : List (String A)). IsPromptAsGiven folder (Ok (map string_bytes l)) before now) same prompt)
-
-  -- by these settings of theirs
-  pub prompt_given : {A B : Type 0} (given : Result (Vec (String A) B) WordsFault) (words : Vec (String A) B) (slice : List (String A)) (before now : Ends) (settings : Settings) (file : Option (Bor (List ℕ)))
-      (bytes : Option (List ℕ)) → given ≡ Ok words → slice ≡ vec_items words → AreGiven (map string_bytes slice) settings → lent_bytes file ≡ bytes
-      → IsFile folder.gives (option_map string_bytes settings.schema) bytes → IsPromptOverAsked folder file settings before now → IsPromptAsGiven folder (words_of given) before now
-  prompt_given given words slice before now settings file bytes is same are lent file_is prompt =
-      prompt_read given words slice before now is same (holds_given (map string_bytes slice) settings file bytes _ are lent file_is prompt)
-
   -- the files of the settings may be read as those of the words that give them
-  pub may_read : {A B : Type 0} (given : Result (Vec (String A) B) WordsFault) (words : Vec (String A) B) (slice : List (String A)) (before : Ends) (settings : Settings) (file : Option (Bor (List ℕ)))
-      (bytes : Option (List ℕ)) → given ≡ Ok words → slice ≡ vec_items words → MayReadAsGiven folder (words_of given) before → AreGiven (map string_bytes slice) settings → lent_bytes file ≡ bytes
-      → IsFile folder.gives (option_map string_bytes settings.schema) bytes → MayReadAsked folder file settings before
-  may_read {A} {B} given words slice before settings file bytes is same may are lent file_is =
-      let all = subst (λ (g : Result (Vec (String A) B) WordsFault). MayReadAsGiven folder (words_of g) before) is may in
-      let read = subst (λ (b : Option (List ℕ)). IsFile folder.gives (option_map string_bytes settings.schema) b) (sym lent) file_is in
-      subst (λ (l : List (String A)). MayReadAsGiven folder (Ok (map string_bytes l)) before) (sym same) all settings file are
-      (subst (λ (t : Option Text). IsFile folder.gives t (lent_bytes file)) are.said.schema read)
+  pub may_read : (given : List Text) (before : Ends) (settings : Settings) (file : Option (Bor (List ℕ))) (bytes : Option (List ℕ)) → MayReadAsGiven folder (Ok given) before
+      → AreGiven given settings → lent_bytes file ≡ bytes → IsFile folder.gives (option_map string_bytes settings.schema) bytes → MayReadAsked folder file settings before
+  may_read given before settings file bytes may are lent is = may settings file are (rw (← are.said.schema, lent) is)
 
 module _ (maker : Maker) (folder : Folder) where
   -- the words give no settings, and no file was begun
@@ -131,20 +103,12 @@ module _ (maker : Maker) (folder : Folder) where
     comes_files names (Err (unbegun.Ask unasked)) are served (told, is) = rw is (served.0, served.1, told)
     comes_files names (Err (unbegun.Unmade cause)) are served (told, is) = rw is (served.0, served.1, told)
 
-  -- the words could be read
-  pub comes_read : {A B : Type 0} (given : Result (Vec (String A) B) WordsFault) (words : Vec (String A) B) (slice : List (String A)) (before after : Seen) (sums : Option Sums) (outcome : Result Ending EarlyEnd)
-      → given ≡ Ok words → slice ≡ vec_items words → ComesBy maker folder (map string_bytes slice) before after sums outcome → ComesTo maker folder (words_of given) before after sums outcome
-  comes_read {A} {B} given words slice before after sums outcome is same comes =
-      subst (λ (g : Result (Vec (String A) B) WordsFault). ComesTo maker folder (words_of g) before after sums outcome) (sym is)
-      (subst (λ (l : List (String A)). ComesBy maker folder (map string_bytes l) before after sums outcome) same comes)
-
-  -- and give these settings
-  pub comes_given : {A B : Type 0} (given : Result (Vec (String A) B) WordsFault) (words : Vec (String A) B) (slice : List (String A)) (before after : Seen) (sums : Option Sums) (outcome : Result Ending EarlyEnd)
-      (settings : Settings) (file : Option (Bor (List ℕ))) (bytes : Option (List ℕ)) → given ≡ Ok words → slice ≡ vec_items words → AreGiven (map string_bytes slice) settings → lent_bytes file ≡ bytes
-      → IsFile folder.gives (option_map string_bytes settings.schema) bytes → ComesAsAsked maker folder file settings before after sums outcome → ComesTo maker folder (words_of given) before after sums outcome
-  comes_given given words slice before after sums outcome settings file bytes is same are lent file_is comes =
-      comes_read given words slice before after sums outcome is same
-      (comes_asked (map string_bytes slice) before after sums outcome (holds_given folder (map string_bytes slice) settings file bytes _ are lent file_is comes))
+  -- by these settings, and this file of theirs
+  pub comes_given : (given : List Text) (before after : Seen) (sums : Option Sums) (outcome : Result Ending EarlyEnd) (settings : Settings) (file : Option (Bor (List ℕ))) (bytes : Option (List ℕ))
+      → AreGiven given settings → lent_bytes file ≡ bytes → IsFile folder.gives (option_map string_bytes settings.schema) bytes → ComesAsAsked maker folder file settings before after sums outcome
+      → ComesBy maker folder given before after sums outcome
+  comes_given given before after sums outcome settings file bytes are lent is comes =
+      comes_asked given before after sums outcome (holds_given folder given settings file bytes _ are lent is comes)
 
 -- whether files are named, by how many there are
 pub none_named : {Z : Type 0} (files slice : List (String Z)) (empty : Bool) → slice ≡ files → empty ≡ (length slice == 0) → empty ≡ true → map string_bytes files ≡ []
@@ -156,26 +120,7 @@ some_named files slice empty same is named none =
     let zero : length slice ≡ 0 = ap length same ∙ sym (length-map files string_bytes) ∙ ap length none in
     true≢false (sym (eq-eqb (length slice) 0 zero) ∙ sym is ∙ named)
 
--- the names that are words, where there are some
-some_words : (texts : List Text) → texts ≢ [] → named_by texts ≡ Some (word_names texts)
-some_words [] some = absurd (some refl)
-some_words (text ∷ texts) some = refl
-
-pub named_by_words : (gives : List ℕ → Result (List ℕ) FileFault → Type 0) (settings : Settings) (names : List Named) → option_map string_bytes settings.names_file ≡ None
-    → (IsAlone settings → ⊥) → names ≡ word_names (map string_bytes settings.files.items) → AreNamed gives settings (Some names)
-named_by_words gives settings names unlisted others are =
-    rw unlisted (ap (λ l. Some l) are ∙ sym (some_words (map string_bytes settings.files.items) (λ none. others (unlisted, none))))
-
-pub named_by_list : (gives : List ℕ → Result (List ℕ) FileFault → Type 0) (settings : Settings) (names : List Named) (name list : List ℕ) → option_map string_bytes settings.names_file ≡ Some name
-    → IsList gives name list → names ≡ listed_names list → AreNamed gives settings (Some names)
-named_by_list gives settings names name list listed is are = rw listed (list, is, ap (λ l. Some l) are)
-
--- there are no names
-pub listless : (gives : List ℕ → Result (List ℕ) FileFault → Type 0) (settings : Settings) (name : List ℕ) (fault : FileFault) (hint : List ℕ)
-    → option_map string_bytes settings.names_file ≡ Some name → HasListFault gives name fault → IsNameless gives settings (stop.List fault hint)
-listless gives settings name fault hint listed has = (name, listed, has)
-
--- the words or the schema file couldn't be read, or the words give no settings
+-- the words or the schema file couldn't be read, or the words give no settings: nothing was asked of the reader
 pub early : (before after : Ends) (outcome : Result Ending EarlyEnd) → EndsSo before after 4294967296 outcome → after.reader ≡ before.reader → Rests before after None outcome
 early before after outcome ends same = record { places = tt; ends = ends; turns = rw same (omega arith) }
 
@@ -193,25 +138,6 @@ pub sums_noted : (sums : Option Sums) (told : Sums) (before after : Writer) (out
 sums_noted sums told before after outcome line written some is all wrote same =
     subst (λ (o : Option Sums). SumsUp o before after outcome outcome) (sym some)
     (inl (subst (Appends before.bytes after.bytes) (ap (λ (m : ℕ). take m line) all ∙ take-length line ∙ is) wrote, same, refl))
-
--- the words or the schema file couldn't be read, and there is a hint behind that, or no memory for it
-module _ {A B : Type 0} (maker : Maker) (folder : Folder) (given : Result (Vec (String A) B) WordsFault) (seen : Seen) (fault : WordsFault) (is : given ≡ Err fault) where
-  pub wordless : (hint : List ℕ) → ComesTo maker folder (words_of given) seen seen None (Err (stop.Words fault hint)) × Rests seen.ends seen.ends None (Err (stop.Words fault hint))
-  wordless hint = rw is ((refl, idle seen.ends, refl), early seen.ends seen.ends _ (refl, refl, refl, refl) refl)
-
-  pub wordless_hintless : ComesTo maker folder (words_of given) seen seen None (Err (stop.Settings refusal.OutOfMemory)) × Rests seen.ends seen.ends None (Err (stop.Settings refusal.OutOfMemory))
-  wordless_hintless = rw is ((idle seen.ends, refl), early seen.ends seen.ends _ (refl, refl, refl, refl) refl)
-
-module _ (maker : Maker) (folder : Folder) (given : List Text) (seen : Seen) where
-  pub fileless : (fault : FileFault) (hint : List ℕ) (name : Option Text) → fault_of program given ≡ [] → name ≡ text_of (codes "schema") (values_of given) → HasFileFault folder.gives name fault
-      → ComesBy maker folder given seen seen None (Err (stop.File fault hint)) × Rests seen.ends seen.ends None (Err (stop.File fault hint))
-  fileless fault hint name read is has =
-      ((read, subst (λ (t : Option Text). HasFileFault folder.gives t fault) is has, idle seen.ends, refl), early seen.ends seen.ends _ (refl, refl, refl, refl) refl)
-
-  pub hintless : ComesBy maker folder given seen seen None (Err (stop.Settings refusal.OutOfMemory)) × Rests seen.ends seen.ends None (Err (stop.Settings refusal.OutOfMemory))
-  hintless =
-      let idles = idle seen.ends in
-      (((refusal.OutOfMemory, tt, idles.0, idles.1.0, idles.1.1), refl), early seen.ends seen.ends _ (refl, refl, refl, refl) refl)
 
 -- the numbers to be told have a place for each kind of fault
 summed_places : (told : Sums) (asked : Bool) → length told.tally.reasons ≡ reason_count → IfSome (if asked then Some told else None) (λ (sums : Sums). length sums.tally.reasons ≡ reason_count)
@@ -238,15 +164,10 @@ module _ (settings : Settings) (before after : Ends) (turns : after.reader.calls
         → EndsBeside (with_rejects before rejects) (with_rejects after rejects') 4294967296 end → Rests before after (summed settings tally) (run_ending manner cause tally end)
     run_rests_so manner cause tally (Ok done) rejects rejects' are ends = rests_by tally _ are (ends.0, ends.1, ends.2, alike)
     run_rests_so manner cause tally (Err (run.RejectFault written)) rejects rejects' are ends = rests_by tally _ are tt
-    run_rests_so manner cause tally (Err run.ReadFault) rejects rejects' are ends = rests_by tally _ are (ends.0, ends.1, ends.2, alike)
-    run_rests_so manner cause tally (Err (run.WriteFault written)) rejects rejects' are ends = rests_by tally _ are (ends.0, ends.1, ends.2, alike)
-    run_rests_so manner cause tally (Err (run.NoteFault written)) rejects rejects' are ends = rests_by tally _ are (ends.0, ends.1, ends.2, alike)
     run_rests_so manner cause tally (Err run.TooManyTurns) rejects rejects' are ends = rests_by tally _ are ((ends.0.0, ends.0.1, ends.0.2, alike), ends.1)
-    run_rests_so manner cause tally (Err run.OutOfMemory) rejects rejects' are ends = rests_by tally _ are (ends.0, ends.1, ends.2, alike)
-    run_rests_so manner cause tally (Err (run.BareTooLong most)) rejects rejects' are ends = rests_by tally _ are (ends.0, ends.1, ends.2, alike)
     run_rests_so manner cause tally (Err (run.SkipPastEnd skip)) rejects rejects' are ends = rests_by tally _ are ((ends.0.0, ends.0.1, ends.0.2, alike), ends.1)
     run_rests_so manner cause tally (Err (run.Stream (stream.Truncated held))) rejects rejects' are ends = rests_by tally _ are ((ends.0.0, ends.0.1, ends.0.2, alike), ends.1)
-    run_rests_so manner cause tally (Err (run.Stream fault)) rejects rejects' are ends = rests_by tally _ are (ends.0, ends.1, ends.2, alike)
+    run_rests_so manner cause tally (Err _) rejects rejects' are ends = rests_by tally _ are (ends.0, ends.1, ends.2, alike)
 
     pub run_rests : (maker : Maker) (file : Option (Bor (List ℕ))) (ran : Result (check.Kept Ran) Unbegun) (sums : Option Sums) (outcome : Result Ending EarlyEnd)
         → IsCheckedKeeping maker file settings before after ran → EndsRun settings ran sums outcome
@@ -279,9 +200,3 @@ told_plainly fault before after (Err (stop.Usage text)) given form unserved plai
 told_plainly fault before after (Err (stop.Settings why)) given form unserved plain = inr plain
 told_plainly fault before after (Err (stop.CutOff written)) given form unserved plain = inr plain
 told_plainly fault before after _ given form never plain = absurd never
-
-pub told_read : {A B : Type 0} (given : Result (Vec (String A) B) WordsFault) (words : Vec (String A) B) (slice : List (String A)) (outcome : Result Ending EarlyEnd) (form : LineForm)
-    → given ≡ Ok words → slice ≡ vec_items words → TellsIn (is_set outcome) (map string_bytes slice) form → TellsAsGiven (words_of given) outcome form
-told_read {A} {B} given words slice outcome form is same tells =
-    subst (λ (g : Result (Vec (String A) B) WordsFault). TellsAsGiven (words_of g) outcome form) (sym is)
-    (subst (λ (l : List (String A)). TellsIn (is_set outcome) (map string_bytes l) form) same tells)

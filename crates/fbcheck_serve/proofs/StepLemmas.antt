@@ -1,18 +1,13 @@
 -- A path has as many steps as its text shows.
 use Rattle.std.proofs.Common.{◌≡◌, ◌∙◌, ◌++◌, ℕ, IsTrue, List, [], ◌∷◌, ap, arith, false, length, refl, rules, suc, true}
 use mathlib.Core.Logic.{inl, inr}
-use Rattle.std.proofs.Math.Bool.{cond}
+use Rattle.std.proofs.{Math.Bool.cond, lemmas.Bool.Decides.nat_tests, lemmas.List.Sums.sum_by-append, lemmas.List.Sums.sum_by-cons}
 use Rattle.std.specs.Prelude.{count_by}
 use Rattle.std.specs.List.{AllByRecursion}
-use Rattle.std.proofs.lemmas.Bool.Decides.{nat_tests}
-use Rattle.std.proofs.lemmas.List.Sums.{sum_by-append, sum_by-cons}
 use Rattle.fb_access.specs.Grammar.{IsName, IsNumber, IsPart, Part, element, field, goes_on, is_digit, member, spelling}
-use Rattle.fb_access.specs.Resolving.{Follows}
-use Rattle.fb_access.specs.declared.step.Step.{Step}
-use Rattle.fb_schema.specs.Rows.{Rows}
-use Rattle.fb_schema.specs.declared.{kinds.Kind.Kind, kinds.Kind.TheVariants.Table}
-use Rattle.fbcheck_serve.specs.CheckLaws.{AreStepsAsWritten}
-use Rattle.fbcheck_words.specs.Given.{is_sign}
+use Rattle.fb_access.specs.{Resolving.Follows, declared.step.Step.Step}
+use Rattle.fb_schema.specs.{Rows.Rows, declared.kinds.Kind.Kind, declared.kinds.Kind.TheVariants.Table}
+use Rattle.fbcheck_serve.specs.{CheckLaws.AreStepsAsWritten, Given.is_sign}
 
 -- how many bytes of a text begin a further step
 abbrev begun : List ℕ → ℕ

@@ -1,21 +1,15 @@
 -- What the settings ask, by a schema that has a root table of its own, or none.
-use Rattle.std.specs.Prelude.{◌≡◌, ℕ, ◌&&◌, ◌||◌, not, Bool, IsTrue, true, false, List, Option, Some, None, Result, Ok, Err, Vec, option_map, map, string_bytes, [], ◌∷◌, ◌⊎◌, codes, if◌then◌else◌}
+use Rattle.std.specs.Prelude.{◌≡◌, ℕ, ◌&&◌, ◌||◌, not, Bool, IsTrue, false, List, Option, Some, None, Result, Ok, Err, Vec, option_map, map, string_bytes, [], ◌∷◌, ◌⊎◌, codes, if◌then◌else◌}
 use Rattle.std.specs.{Borrow.Bor, Global.Global, List.AllZip}
 use Rattle.fb_schema.specs.Rows.{Rows, table_named}
-use Rattle.fb_access.specs.declared.{step.Step.Step, path_fault.PathFault.PathFault}
-use Rattle.fb_access.specs.Resolving.{Resolves, IsFault}
-use Rattle.fb_rules.specs.declared.{start.Ident.Ident, start.Ident.TheVariants.Any, start.Ident.TheVariants.Want}
-use Rattle.fb_bfbs.specs.LoadLaws.{own_ident}
-use Rattle.fb_strict.specs.declared.demands.Demands.{Demands}
-use Rattle.fb_bfbs.specs.Marks.{Marked}
-use Rattle.fb_strict.specs.{Demanded.Demanded, Demanded.demanded as holding, Holding.holdings_if, Planned.IsPlan, Planned.Planned}
-use Rattle.fb_run.specs.{Job.Job, Job.job_of, Wanted.Wanted}
-use Rattle.fbcheck_words.specs.declared.choices.Settings.{Settings}
-use Rattle.fb_run.specs.declared.{options.Rejects.Rejects, options.Options.Options}
-use Rattle.fb_run.specs.declared.options.Rejects.TheVariants.{Dropped, Kept}
-use Rattle.fbcheck_texts.specs.declared.fault.AskFault.{AskFault}
-use Rattle.fbcheck_serve.specs.{FileMarks.ArePlanMarks, Inputs.label_of, Inputs.with_label}
-use Rattle.fbcheck_texts.specs.declared.fault.AskFault.TheVariants.{Path, NoRoot, NoIdent, UnmarkedBytes, NoSuchTable, OutOfMemory}
+use Rattle.fb_access.specs.{declared.step.Step.Step, declared.path_fault.PathFault.PathFault, Resolving.Resolves, Resolving.IsFault}
+use Rattle.fb_rules.specs.declared.start.Ident.{Ident, TheVariants.Any, TheVariants.Want}
+use Rattle.fb_bfbs.specs.{LoadLaws.own_ident, Marks.Marked}
+use Rattle.fb_strict.specs.{declared.demands.Demands.Demands, Demanded.Demanded, Demanded.demanded as holding, Holding.holdings_if, Planned.IsPlan, Planned.Planned}
+use Rattle.fb_run.specs.{Job.Job, Job.job_of, Wanted.Wanted, declared.options.Rejects.Rejects, declared.options.Options.Options, declared.options.Rejects.TheVariants.Dropped}
+use Rattle.fb_run.specs.declared.options.Rejects.TheVariants.{Kept}
+use Rattle.fbcheck_serve.specs.{declared.choices.Settings.Settings, declared.fault.AskFault.AskFault, FileMarks.ArePlanMarks, Inputs.label_of, Inputs.with_label}
+use Rattle.fbcheck_serve.specs.declared.fault.AskFault.TheVariants.{Path, NoRoot, NoIdent, UnmarkedBytes, NoSuchTable, OutOfMemory}
 
 -- the root table: the listed one of the name that is asked for, or else the schema's own
 abbrev pub root_of : Rows → Option (List ℕ) → Option ℕ → Option ℕ

@@ -2,10 +2,9 @@
 use Rattle.std.specs.Prelude.{◌≡◌, Bool, true, false, List}
 use Rattle.std.specs.List.{list_any}
 use Rattle.fb_schema.specs.Rows.{Rows}
-use Rattle.fb_bfbs.specs.{ByteFields.HasUnmarked, Marks.Marked}
-use Rattle.fb_bfbs.specs.declared.marks.Builtins.{Builtins}
+use Rattle.fb_bfbs.specs.{ByteFields.HasUnmarked, Marks.Marked, declared.marks.Builtins.Builtins}
 use Rattle.fb_strict.specs.Holding.{is_lost}
-use Rattle.fbcheck_texts.specs.declared.{fault.AskFault.AskFault, fault.AskFault.TheVariants.NoSuchTable, fault.AskFault.TheVariants.OutOfMemory, fault.AskFault.TheVariants.UnmarkedBytes}
+use Rattle.fbcheck_serve.specs.declared.fault.AskFault.{AskFault, TheVariants.NoSuchTable, TheVariants.OutOfMemory, TheVariants.UnmarkedBytes}
 
 -- some mark of a field of bytes names no table
 abbrev pub has_lost : Rows → List Marked → Bool

@@ -1,16 +1,11 @@
 -- The laws of what a schema file and the settings ask.
 use Rattle.std.specs.Prelude.{◌≡◌, ◌≢◌, ℕ, List, [], ◌∷◌, ◌++◌, Option, Result, length, map}
-use Rattle.std.specs.List.{AllByRecursion}
-use Rattle.std.specs.Borrow.{Bor}
-use Rattle.fb_access.specs.Resolving.{Resolves}
-use Rattle.fb_access.specs.declared.step.Step.{Step}
+use Rattle.std.specs.{List.AllByRecursion, Borrow.Bor}
+use Rattle.fb_access.specs.{Resolving.Resolves, declared.step.Step.Step}
 use Rattle.fb_run.specs.Job.{Job}
 use Rattle.fb_schema.specs.Rows.{Rows}
-use Rattle.fbcheck_serve.specs.Checking.{Asks}
-use Rattle.fbcheck_serve.specs.Names.{last_name, listed_name, listed_names}
-use Rattle.fbcheck_words.specs.Given.{steps_in}
-use Rattle.fbcheck_words.specs.declared.choices.Settings.{Settings}
-use Rattle.fbcheck_texts.specs.declared.fault.AskFault.{AskFault}
+use Rattle.fbcheck_serve.specs.{Checking.Asks, Names.last_name, Names.listed_name, Names.listed_names, Given.steps_in, declared.choices.Settings.Settings}
+use Rattle.fbcheck_serve.specs.declared.fault.AskFault.{AskFault}
 
 -- a schema file and the settings ask at most one thing
 abbrev pub AsksOnce : Type 0

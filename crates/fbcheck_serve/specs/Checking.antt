@@ -2,25 +2,18 @@
 use Rattle.std.specs.Prelude.{◌≡◌, ℕ, IsTrue, false, List, [], Option, Some, None, Result, Ok, Err, length, codes, map}
 use Rattle.std.specs.{Borrow.Bor, Io.KnownBytes.Keeps}
 use Rattle.fb_schema.specs.Rows.{Rows}
-use Rattle.fb_bfbs.specs.{Fixed.fixed, Loads.IsLoaded, Loads.IsLoadFault, Loads.schema_number}
-use Rattle.fb_bfbs.specs.declared.{loading.Loaded.Loaded, load_fault.LoadFault.LoadFault}
+use Rattle.fb_bfbs.specs.{Fixed.fixed, Loads.IsLoaded, Loads.IsLoadFault, Loads.schema_number, declared.loading.Loaded.Loaded, declared.load_fault.LoadFault.LoadFault}
 use Rattle.fb_bfbs.specs.declared.load_fault.LoadFault.TheVariants as load
-use Rattle.fb_bfbs.specs.LoadLaws.{ident_bytes}
-use Rattle.fb_bfbs.specs.{ByteFields.HasUnmarked, Marks.AreMarks, Marks.Marked, Marks.marked}
-use Rattle.fb_bfbs.specs.declared.{marks.Builtins.Builtins, marks.Marks.Marks}
+use Rattle.fb_bfbs.specs.{LoadLaws.ident_bytes, ByteFields.HasUnmarked, Marks.AreMarks, Marks.Marked, Marks.marked, declared.marks.Builtins.Builtins, declared.marks.Marks.Marks}
 use Rattle.fb_strict.specs.Planned.{IsPlan, Planned}
-use Rattle.fbcheck_serve.specs.{ByteFields.AreTold, ByteFields.LacksTable, ByteFields.Misses, FileMarks.IsMarkedFile, FileMarks.schema_limits}
-use Rattle.fbcheck_serve.specs.Asked.{AsksBy, IsPathFault, Own, demanded_by}
-use Rattle.fbcheck_serve.specs.Heads.{IsHeaded, RunsBehindHead, ServesBehindHead}
-use Rattle.fbcheck_serve.specs.{Lists.AreNamed, Names.Named, Names.all_named}
-use Rattle.fbcheck_serve.specs.Inputs.{Folder, IsPromptAmong, IsPromptOver, MayReadEach, Seen}
+use Rattle.fbcheck_serve.specs.{ByteFields.AreTold, ByteFields.LacksTable, ByteFields.Misses, FileMarks.IsMarkedFile, FileMarks.schema_limits, Asked.AsksBy, Asked.IsPathFault}
+use Rattle.fbcheck_serve.specs.{Asked.Own, Asked.demanded_by, Heads.IsHeaded, Heads.RunsBehindHead, Heads.ServesBehindHead, Lists.AreNamed, Names.Named, Names.all_named}
+use Rattle.fbcheck_serve.specs.{Inputs.Folder, Inputs.IsPromptAmong, Inputs.IsPromptOver, Inputs.MayReadEach, Inputs.Seen, declared.choices.Settings.Settings}
+use Rattle.fbcheck_serve.specs.declared.fault.{AskFault.AskFault, CheckFault.CheckFault, AskFault.TheVariants.Load, AskFault.TheVariants.Path, AskFault.TheVariants.UnmarkedBytes}
+use Rattle.fbcheck_serve.specs.declared.{fault.AskFault.TheVariants.NoSuchTable, fault.AskFault.TheVariants.OutOfMemory, hint.Unasked.Unasked, inputs.Course.Course}
 use Rattle.fb_run.specs.{Ends.Ends, Ends.Unwritten, Ends.Writer, Ends.with_rejects, Faults.End, Faults.EndsBeside, Faults.IsUnfailed, Faults.failures_of, Job.Job, Prompt.IsPrompt}
 use Rattle.fb_run.specs.declared.{run.Ran.Ran, tally.Tally.Tally}
-use Rattle.fbcheck_words.specs.declared.choices.Settings.{Settings}
-use Rattle.fbcheck_texts.specs.declared.{fault.AskFault.AskFault, hint.Unasked.Unasked, fault.CheckFault.CheckFault}
-use Rattle.fbcheck_texts.specs.declared.fault.AskFault.TheVariants.{Load, Path, UnmarkedBytes, NoSuchTable, OutOfMemory}
-use Rattle.fbcheck_serve.specs.declared.{inputs.Course.Course, inputs.Passed.Passed}
-use Rattle.fbcheck_texts.specs.declared.fault.CheckFault.TheVariants as check
+use Rattle.fbcheck_serve.specs.declared.fault.CheckFault.TheVariants as check
 
 -- the root table and the identifier of a schema that was loaded
 abbrev pub own_of : Loaded → Own
@@ -130,11 +123,6 @@ IsChecked file settings before after (Err (check.Ask fault)) = LacksJob file set
 abbrev pub ServesAsAsked : Folder → Option (Bor (List ℕ)) → Settings → List Named → Seen → Seen → Course → End → Type 0
 ServesAsAsked folder file settings names before after course end =
     (job : Job) × Asks file settings (Ok job) × ServesBehindHead folder job names before after course end
-
--- the same where it may be that none was begun
-abbrev pub IsServedEach : Folder → Option (Bor (List ℕ)) → Settings → List Named → Seen → Seen → Result Passed Unasked → Type 0
-IsServedEach folder file settings names before after (Ok passed) = ServesAsAsked folder file settings names before after passed.course passed.end
-IsServedEach folder file settings names before after (Err unasked) = LacksJob file settings unasked.fault × IsIdle before.ends after.ends
 
 -- there was nothing to check by
 abbrev pub IsUnasked : CheckFault → Type 0

@@ -1,9 +1,8 @@
 -- What a schema file's marks say of fields of bytes.
 use Rattle.std.specs.Prelude.{◌≡◌, ℕ, true, false, Bool, List, [], Option, Some, None, min, length, map}
-use Rattle.std.specs.{Borrow.Bor}
+use Rattle.std.specs.Borrow.{Bor}
 use Rattle.fb_rules.specs.Bounds.{Bounds, limits_of_length}
-use Rattle.fb_bfbs.specs.Marks.{AreMarks, Marked, marked}
-use Rattle.fb_bfbs.specs.declared.{marks.Builtins.Builtins, marks.Marks.Marks}
+use Rattle.fb_bfbs.specs.{Marks.AreMarks, Marks.Marked, Marks.marked, declared.marks.Builtins.Builtins, declared.marks.Marks.Marks}
 
 -- the limits by which a schema file of so many bytes is verified: the published ones, with a budget of 100,000,000
 -- reads, and of 64 for each byte and for 64 more (one too long for offsets is refused by its length)

@@ -4,13 +4,12 @@ use Rattle.std.specs.Io.KnownBytes.{Appends}
 use Rattle.fb_bytes.specs.Ends.{one_more}
 use Rattle.fb_run.specs.{AllTold.WritesFront, Csv.head_in, Ends.Ends, Ends.Writer, Ends.with_writer, Faults.End, Job.Job, Run.IsRunBeside, Sums.no_tally}
 use Rattle.fb_run.specs.declared.{fault.RunFault.TheVariants.WriteFault, tally.Tally.Tally}
-use Rattle.fbcheck_serve.specs.Names.{Named}
-use Rattle.fbcheck_serve.specs.Inputs.{Folder, Seen, ServesEach, are_named, at_first, no_course, stand, sum_of_bytes, with_cause}
-use Rattle.fbcheck_serve.specs.declared.inputs.Course.{Course}
+use Rattle.fbcheck_serve.specs.{Names.Named, Inputs.Folder, Inputs.Seen, Inputs.ServesEach, Inputs.are_named, Inputs.at_first, Inputs.no_course, Inputs.stand, Inputs.sum_of_bytes}
+use Rattle.fbcheck_serve.specs.{Inputs.with_cause, declared.inputs.Course.Course}
 
 -- what a job has written above all else, over the files of these names: a head where it asks for rows, and else nothing
 abbrev pub head_of : Job → List Named → List ℕ
-head_of job names = head_in job.mode (are_named job.label names) job.paths
+head_of job names = head_in job.terms.mode (are_named job.label names) job.paths
 
 -- it was written, or in a write that failed a front of it
 abbrev pub IsHeadPut : List ℕ → Writer → Writer → End → Type 0

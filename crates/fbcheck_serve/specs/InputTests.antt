@@ -1,18 +1,12 @@
 -- Files as inputs, by example.
 use Rattle.std.specs.Prelude.{◌≡◌, ℕ, true, false, [], ◌∷◌, Some, None, Ok, Err, codes}
 use Rattle.fb_bytes.specs.declared.stream_fault.StreamFault.{StreamFault}
-use Rattle.fb_run.specs.Sums.{no_tally}
-use Rattle.fb_run.specs.declared.fault.RunFault.TheVariants.{ReadFault, WriteFault, NoteFault, RejectFault, Stream, TooManyTurns, OutOfMemory, BareTooLong, SkipPastEnd}
+use Rattle.fb_run.specs.{Sums.no_tally, declared.fault.RunFault.TheVariants.ReadFault, declared.fault.RunFault.TheVariants.WriteFault}
+use Rattle.fb_run.specs.declared.fault.RunFault.TheVariants.{NoteFault, RejectFault, Stream, TooManyTurns, OutOfMemory, BareTooLong, SkipPastEnd}
 use Rattle.fb_run.specs.declared.run.Ran.{Ran}
-use Rattle.fbcheck_serve.specs.Inputs.{are_named, course_with, fault_line, is_final, label_of}
-use Rattle.fbcheck_serve.specs.Names.{listed_name, listed_names, misnomer_text, word_name, wrong_name}
-use Rattle.fbcheck_serve.specs.declared.names.Misnomer.TheVariants.{Empty, NotText}
-use Rattle.fbcheck_serve.specs.declared.{inputs.Course.Course, inputs.Standard.TheVariants.Unread, inputs.Standard.TheVariants.Spent}
-use Rattle.fbcheck_serve.specs.declared.inputs.Missed.TheVariants.{Again}
-
--- no file yet
-abbrev pub none : Course
-none = record { tally = no_tally; status = 0; standard = Unread }
+use Rattle.fbcheck_serve.specs.{Inputs.are_named, Inputs.course_with, Inputs.fault_line, Inputs.is_final, Inputs.label_of, Inputs.no_course, Names.listed_name, Names.listed_names}
+use Rattle.fbcheck_serve.specs.{Names.misnomer_text, Names.word_name, Names.wrong_name, declared.names.Misnomer.TheVariants.Empty, declared.names.Misnomer.TheVariants.NotText}
+use Rattle.fbcheck_serve.specs.declared.inputs.{Standard.TheVariants.Spent, Missed.TheVariants.Again}
 
 -- a run over two good buffers, one over a bad one, and one that ended in a failed read
 abbrev pub good : Ran
@@ -26,12 +20,12 @@ cut = record { tally = no_tally; end = Err ReadFault }
 
 -- two files come to the greater of their statuses, whichever is the last, and to the sums of their numbers
 pub record Courses : Type 0 where
-  pub first_bad : (course_with (word_name (codes "b")) (Ok good) (course_with (word_name (codes "a")) (Ok bad) none)).status ≡ 1
-  pub last_bad : (course_with (word_name (codes "b")) (Ok bad) (course_with (word_name (codes "a")) (Ok good) none)).status ≡ 1
-  pub first_cut : (course_with (word_name (codes "b")) (Ok bad) (course_with (word_name (codes "a")) (Ok cut) none)).status ≡ 3
-  pub read_twice : (course_with (word_name (codes "-")) (Err Again) (course_with (word_name (codes "-")) (Ok good) none)).status ≡ 3
-  pub both : (course_with (word_name (codes "b")) (Ok good) (course_with (word_name (codes "a")) (Ok bad) none)).tally ≡ record no_tally { yes = 2; no = 1; bytes = 92 }
-  pub spent : (course_with (word_name (codes "a")) (Ok good) (course_with (word_name (codes "-")) (Ok bad) none)).standard ≡ Spent
+  pub first_bad : (course_with (word_name (codes "b")) (Ok good) (course_with (word_name (codes "a")) (Ok bad) no_course)).status ≡ 1
+  pub last_bad : (course_with (word_name (codes "b")) (Ok bad) (course_with (word_name (codes "a")) (Ok good) no_course)).status ≡ 1
+  pub first_cut : (course_with (word_name (codes "b")) (Ok bad) (course_with (word_name (codes "a")) (Ok cut) no_course)).status ≡ 3
+  pub read_twice : (course_with (word_name (codes "-")) (Err Again) (course_with (word_name (codes "-")) (Ok good) no_course)).status ≡ 3
+  pub both : (course_with (word_name (codes "b")) (Ok good) (course_with (word_name (codes "a")) (Ok bad) no_course)).tally ≡ record no_tally { yes = 2; no = 1; bytes = 92 }
+  pub spent : (course_with (word_name (codes "a")) (Ok good) (course_with (word_name (codes "-")) (Ok bad) no_course)).standard ≡ Spent
 
 -- what ends it all, whatever files are left: a failed write or note, and want of memory; and what ends one file alone
 pub record Finals : Type 0 where

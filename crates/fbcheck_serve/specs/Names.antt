@@ -1,9 +1,8 @@
 -- The names of the files that are inputs.
 use Rattle.std.specs.Prelude.{ℕ, Bool, ◌==◌, if◌then◌else◌, List, [], ◌∷◌, ◌++◌, Option, Some, None, bytes_eq, codes, map}
 use Rattle.std.specs.Str.{is_utf8}
-use Rattle.fbcheck_serve.specs.declared.{names.Misnomer.Misnomer, names.Origin.Origin}
-use Rattle.fbcheck_serve.specs.declared.{names.Misnomer.TheVariants.Empty, names.Misnomer.TheVariants.NotText}
-use Rattle.fbcheck_serve.specs.declared.{names.Origin.TheVariants.Word, names.Origin.TheVariants.List as in_list}
+use Rattle.fbcheck_serve.specs.declared.names.{Misnomer.Misnomer, Origin.Origin, Misnomer.TheVariants.Empty, Misnomer.TheVariants.NotText, Origin.TheVariants.Word}
+use Rattle.fbcheck_serve.specs.declared.names.Origin.TheVariants.{List as in_list}
 
 -- a name, and where it stands
 pub record Named : Type 0 where

@@ -5,13 +5,17 @@ ghost use Rattle.fb_rules.specs.Reasons.{reason_count};
 ghost use Rattle.fb_run.specs.{Ends.all_outs, Ends.writer_of, Job.Serves, Job.job_of, Leave.HasLeave, Leave.all_ends, Prompt.IsPrompt};
 ghost use Rattle.fbcheck_serve.specs.Inputs.{ComesOf, IsBehind, IsBehindEnd, IsBehindRun, IsFaultLine, IsHintLine, IsStopOf, IsPromptAmong, MayRead, MayReadEach, ServesEach, TellsFault};
 ghost use Rattle.fbcheck_serve.specs.Inputs.{Tries, at_first, course_with, fault_line, no_course, folder_of, is_final, all_seen, label_of, stand, standard_after, sum_of, sums, are_named};
-ghost use Rattle.fbcheck_serve.specs.Names.{is_standard};
+ghost use Rattle.fbcheck_serve.specs.{Names.is_standard, Hints.IsHint};
 ghost use Rattle.fbcheck_serve.specs.declared.inputs.Standard.TheVariants.{Unread, Spent};
-ghost use Rattle.fbcheck_texts.specs.Hints.{IsHint};
 
+use crate::causes::{Causes, Explains, reason};
+use crate::fault::FileFault;
+use crate::fault_json::{fault_object, hint_object};
 use crate::files::Files;
+use crate::framing::{By, Framing, end_hint, run_hint};
 use crate::names::{Misnomer, Name};
 use crate::stop::note;
+use crate::texts::{run_text, stopped_text};
 use fb_bytes::Sink;
 use fb_run::{
     Input, LineForm, MOST_TURNS, Options, Ran, RunFault, Tally, push_all, put_bytes, run_keeping,
@@ -19,11 +23,6 @@ use fb_run::{
 };
 use fb_schema::Schema;
 use fb_verify::REASONS;
-use fbcheck_texts::causes::{Causes, Explains, reason};
-use fbcheck_texts::fault::FileFault;
-use fbcheck_texts::fault_json::{fault_object, hint_object};
-use fbcheck_texts::framing::{By, Framing, end_hint, run_hint};
-use fbcheck_texts::texts::{run_text, stopped_text};
 use std::alloc::{AllocError, Global};
 use std::io::ErrorKind;
 
@@ -202,9 +201,10 @@ fn pass_file<F: Files<K, N>, S: Input<K, N> + Explains, K: Sink, N: Sink, R: Sin
     ensures tries { Tries (folder_of F.Files F.Opened.Input F.Opened.Explains files.now) (job_of schema.now options.now) name.now
         (stand (all_seen S.Input S.Explains K.Sink N.Sink R.Sink reader.old writer.old notes.old rejects.old) course.old)
         (stand (all_seen S.Input S.Explains K.Sink N.Sink R.Sink reader.new writer.new notes.new rejects.new) course.new) result }
-    ensures calls { (S.calls reader.new ≤ S.calls reader.old + MOST_TURNS) × (length course.new.tally.reasons ≡ reason_count)
-        × (course.old.standard ≡ Spent → (course.new.standard ≡ Spent) × (reader.new ≡ reader.old))
-        × (course.new.standard ≡ Unread → (course.old.standard ≡ Unread) × (reader.new ≡ reader.old)) }
+    ensures turns { S.calls reader.new ≤ S.calls reader.old + MOST_TURNS }
+    ensures places { length course.new.tally.reasons ≡ reason_count }
+    ensures spent { course.old.standard ≡ Spent → (course.new.standard ≡ Spent) × (reader.new ≡ reader.old) }
+    ensures unread { course.new.standard ≡ Unread → (course.old.standard ≡ Unread) × (reader.new ≡ reader.old) }
 {
     let standard = course.standard;
     let came = run_file(
@@ -246,8 +246,10 @@ fn run_file<F: Files<K, N>, S: Input<K, N> + Explains, K: Sink, N: Sink, R: Sink
     ensures comes { ComesOf (folder_of F.Files F.Opened.Input F.Opened.Explains files.now) (job_of schema.now options.now) name.now standard
         (all_seen S.Input S.Explains K.Sink N.Sink R.Sink reader.old writer.old notes.old rejects.old)
         (all_seen S.Input S.Explains K.Sink N.Sink R.Sink reader.new writer.new notes.new rejects.new) result.what result.cause }
-    ensures calls { (S.calls reader.new ≤ S.calls reader.old + MOST_TURNS)
-        × IfOk result.what (λ ran. length ran.tally.reasons ≡ reason_count) × (is_standard name.now ≡ false → reader.new ≡ reader.old) × (standard ≡ Spent → reader.new ≡ reader.old) }
+    ensures turns { S.calls reader.new ≤ S.calls reader.old + MOST_TURNS }
+    ensures places { IfOk result.what (λ ran. length ran.tally.reasons ≡ reason_count) }
+    ensures apart { is_standard name.now ≡ false → reader.new ≡ reader.old }
+    ensures spent { standard ≡ Spent → reader.new ≡ reader.old }
 {
     if name.is_standard() {
         return match standard {

@@ -1,7 +1,6 @@
 use Rattle.std.proofs.Common.{◌≡◌, ℕ, List, [], ◌∷◌, length, sym, ◌∙◌, eqb-true, arith}
-use Rattle.fbcheck_calls.specs.declared.{outcome.Outcome.Outcome, outcome.Verdict.Verdict, held.Held.Held, options.Options.Options, spans.Span.Span}
-use Rattle.fbcheck_calls.specs.declared.outcome.Outcome.TheVariants.{Done}
-use Rattle.fbcheck_calls.specs.{Answered.IfSchema, Answered.levels, Spans.IsEachAnswered, Spans.IsTried, Told.told}
+use Rattle.fbcheck_calls.specs.{Answered.IfSchema, Answered.levels, Spans.IsEachAnswered, Spans.IsTried, Told.told, declared.outcome.Outcome.Outcome, declared.outcome.Verdict.Verdict}
+use Rattle.fbcheck_calls.specs.declared.{held.Held.Held, options.Options.Options, spans.Span.Span, outcome.Outcome.TheVariants.Done}
 use Rattle.fbcheck_c.proofs.fbcheck_verify_each_proved.Goals as goal
 
 pub returns-clause-told : goal.returns-clause-told

@@ -7,49 +7,27 @@ use fb_bfbs::LoadFault;
 use fb_bytes::StreamFault;
 use fb_run::{Line, RunFault};
 use fb_verify::{Fault, Reason};
-use fbcheck_texts::fault::{AskFault, CheckFault, FileFault, WordsFault, WrongWord};
-use fbcheck_texts::hint::Unasked;
-use fbcheck_words::{SettingsFault, settings};
+use fbcheck_serve::{
+    AskFault, CheckFault, FileFault, SettingsFault, Unasked, WordsFault, WrongWord, settings,
+};
 use std::alloc::Global;
 use std::error::Error;
 use std::fmt::Display;
 use std::io::ErrorKind;
 use std::process::Abort;
 
-/// A fault of a schema file with this reason of the verifier, and its text.
-macro_rules! not_well_formed {
-    ($reason:ident, $text:literal) => {
-        (
-            LoadFault::NotWellFormed(Fault {
-                at: 31,
-                object: 4,
-                field: Some(1),
-                reason: Reason::$reason,
-                reads: 8,
-            }),
-            concat!("L1 ", $text, " at=31 object=4 field=1 reads=8"),
-        )
-    };
-}
-
-/// The faults of schema files but for those of rows, with each reason of the verifier.
-const OF_FILES: [(LoadFault, &str); 19] = [
-    not_well_formed!(WrongPrefix, "V1 WrongPrefix"),
-    not_well_formed!(OutOfBuffer, "V2 OutOfBuffer"),
-    not_well_formed!(Misaligned, "V3 Misaligned"),
-    not_well_formed!(ZeroOffset, "V4 ZeroOffset"),
-    not_well_formed!(WrongIdentifier, "V5 WrongIdentifier"),
-    not_well_formed!(TooDeep, "V6 TooDeep"),
-    not_well_formed!(TooManyTables, "V7 TooManyTables"),
-    not_well_formed!(BadVtable, "V8 BadVtable"),
-    not_well_formed!(MissingRequired, "V9 MissingRequired"),
-    not_well_formed!(NoTerminator, "V10 NoTerminator"),
-    not_well_formed!(LengthsDiffer, "V11 LengthsDiffer"),
-    not_well_formed!(PastTable, "V12 PastTable"),
-    not_well_formed!(TooManyReads, "V13 TooManyReads"),
-    not_well_formed!(FlexContent, "V14 FlexContent"),
-    not_well_formed!(NotUtf8, "V15 NotUtf8"),
-    not_well_formed!(UnknownField, "V16 UnknownField"),
+/// The faults of schema files but for those of rows.
+const OF_FILES: [(LoadFault, &str); 4] = [
+    (
+        LoadFault::NotWellFormed(Fault {
+            at: 31,
+            object: 4,
+            field: Some(1),
+            reason: Reason::UnknownField,
+            reads: 8,
+        }),
+        "L1 V16 UnknownField at=31 object=4 field=1 reads=8",
+    ),
     (LoadFault::OutOfMemory, "L4 OutOfMemory"),
     (LoadFault::TooLong, "L5 TooLong"),
     (LoadFault::TooMuchShared, "L6 TooMuchShared"),

@@ -1,6 +1,5 @@
 use Rattle.std.proofs.Common.{List, ℕ}
-use Rattle.fb_access.specs.{Cutting.IsNext, Kept.IsThere}
-use Rattle.fb_access.specs.declared.step.Step.{Step}
+use Rattle.fb_access.specs.{Cutting.IsNext, Kept.IsThere, declared.step.Step.Step}
 use Rattle.fb_access.proofs.Following.{IsWalked, left_of}
 use Rattle.fb_access.proofs.path.misfit_at.Given as goal
 

@@ -1,6 +1,5 @@
 use Rattle.std.proofs.Common.{sym, arith}
-use Rattle.fb_access.proofs.{Held.at_table, Staying.part_begins}
-use Rattle.fb_access.proofs.Tested.{changed, field_fails, struct_tested}
+use Rattle.fb_access.proofs.{Held.at_table, Staying.part_begins, Tested.changed, Tested.field_fails, Tested.struct_tested}
 use Rattle.fb_access.proofs.tested_next.spot_of_field.Goals as goal
 
 pub returns-in_err-spot_of-in-Some : goal.returns-in_err-spot_of-in-Some

@@ -1,6 +1,5 @@
 use Rattle.std.proofs.Common.{inl, inr, refl, sym}
-use Rattle.fb_access.specs.declared.step.Step.TheVariants.{Field as ToField}
-use Rattle.fb_access.specs.Denotes.{table}
+use Rattle.fb_access.specs.{declared.step.Step.TheVariants.Field as ToField, Denotes.table}
 use Rattle.fb_bfbs.proofs.{Sure.table_is_here, Composed.seen_in, Composed.seen_after, Composed.type_within, FixedFields.computing, FixedFields.maybe}
 use Rattle.fb_bfbs.proofs.copied.union_type.Goals as goal
 

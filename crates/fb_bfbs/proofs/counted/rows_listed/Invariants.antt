@@ -1,6 +1,5 @@
 use Rattle.std.proofs.Common.{◌≡◌, ℕ, ◌*◌, ◌≤◌, List, length, sum_by}
-use Rattle.fb_access.specs.declared.step.Step.{Step}
-use Rattle.fb_access.specs.Held.{Placed}
+use Rattle.fb_access.specs.{declared.step.Step.Step, Held.Placed}
 use Rattle.fb_bfbs.specs.{Seen.seen, Seen.Within, Seen.behind, Sums.Lists, Sums.listed_rows}
 use Rattle.fb_bfbs.proofs.Composed.{AreRowsSoFar}
 use Rattle.fb_bfbs.proofs.counted.rows_listed.Given as goal

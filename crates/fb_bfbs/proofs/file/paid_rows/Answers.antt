@@ -1,7 +1,6 @@
 use Rattle.std.proofs.Common.{◌≡◌, ℕ, ◌+◌, ◌≤◌, ◌↔◌, Bool, IsTrue, List, inr}
 use Rattle.std.specs.List.{sum_by}
-use Rattle.fb_schema.specs.declared.{rows.ObjectRow.ObjectRow, rows.EnumRow.EnumRow}
-use Rattle.fb_schema.specs.Rows.{object_of, enum_of, rows_of}
+use Rattle.fb_schema.specs.{declared.rows.ObjectRow.ObjectRow, declared.rows.EnumRow.EnumRow, Rows.object_of, Rows.enum_of, Rows.rows_of}
 use Rattle.fb_bfbs.specs.Sums.{object_names, enum_names, names_length}
 use Rattle.fb_bfbs.proofs.Counts.{sum_mapped, past}
 use Rattle.fb_bfbs.proofs.file.paid_rows.Goals as goal

@@ -1,6 +1,5 @@
 use Rattle.std.proofs.Common.{[], ◌∷◌, refl}
-use Rattle.fb_access.specs.declared.step.Step.TheVariants.{Field as ToField}
-use Rattle.fb_access.specs.Denotes.{text}
+use Rattle.fb_access.specs.{declared.step.Step.TheVariants.Field as ToField, Denotes.text}
 use Rattle.fb_bfbs.proofs.{FixedFields.computing, FixedFields.always, FixedFields.maybe, Composed.seen_after}
 use Rattle.fb_bfbs.proofs.file.root_name.Goals as goal
 

@@ -1,6 +1,5 @@
 use Rattle.std.proofs.Common.{◌≡◌, ◌≤◌, List, length, ◌*◌, All}
-use Rattle.fb_access.specs.declared.step.Step.{Step}
-use Rattle.fb_access.specs.Held.{Placed}
+use Rattle.fb_access.specs.{declared.step.Step.Step, Held.Placed}
 use Rattle.fb_bfbs.specs.Seen.{seen, Within, behind}
 use Rattle.fb_bfbs.proofs.Composed.{AreRowsSoFar}
 use Rattle.fb_bfbs.proofs.lists.rows_at.Given as goal

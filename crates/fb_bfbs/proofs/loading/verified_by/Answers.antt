@@ -1,7 +1,7 @@
-use Rattle.std.proofs.Common.{refl}
+use Rattle.std.proofs.Common.{refl, IfErr}
 use Rattle.fb_rules.specs.{Stops.Stops, Verdict.Reports}
 use Rattle.fb_bfbs.specs.{Fixed.fixed, FileRows.IsVerifyFault, Loads.asked_within}
-use Rattle.fb_bfbs.proofs.Outcomes.{if_err_exit}
+use Rattle.fb_verify.proofs.Walking.{err_exit}
 use Rattle.fb_bfbs.proofs.loading.verified_by.Goals as goal
 
 pub verify-requires-clause-table : goal.verify-requires-clause-table
@@ -12,7 +12,7 @@ pub returns-in_err-verified-clause-no : goal.returns-in_err-verified-clause-no
 returns-in_err-verified-clause-no c =
     let no : Stops (asked_within c.args.limits) c.args.meter.bytes c.in_err-verified.field-0.0 =
     rw (c.requires.table, c.published.ensures) at c.in_err-verified.ensures.no in
-    if_err_exit c.from_residual-in_err-verified.result _ (IsVerifyFault c.args.meter.bytes c.args.limits) c.from_residual-in_err-verified.ensures.1 (c.requires.short, no)
+    err_exit c.from_residual-in_err-verified.result _ (λ r. IfErr r (IsVerifyFault c.args.meter.bytes c.args.limits)) c.from_residual-in_err-verified.ensures.1 (c.requires.short, no)
 
 pub returns-clause-yes : goal.returns-clause-yes
 returns-clause-yes c =

@@ -1,6 +1,5 @@
 use Rattle.std.proofs.Common.{◌≡◌, ◌++◌, drop, map}
-use Rattle.fb_bfbs.specs.Marks.{marked, marks_in}
-use Rattle.fb_bfbs.specs.Tags.{tagged_of}
+use Rattle.fb_bfbs.specs.{Marks.marked, Marks.marks_in, Tags.tagged_of}
 use Rattle.fb_bfbs.proofs.marks.put_marks.Given as goal
 
 -- the marks so far, with those of the fields that are left

@@ -1,8 +1,7 @@
 use Rattle.std.proofs.Common.{◌≡◌, refl, sym, ◌∙◌, ap, true≢false, None, Some}
 use Rattle.fb_schema.specs.Members.{member_of}
 use Rattle.fb_schema.proofs.ToldKinds.{told_of}
-use Rattle.fb_rules.specs.{Fields.lead_of, OffsetRows.lead_to, OffsetRows.type_of_slot, OffsetRows.type_reads}
-use Rattle.fb_rules.specs.Order.{table_failure}
+use Rattle.fb_rules.specs.{Fields.lead_of, OffsetRows.lead_to, OffsetRows.type_of_slot, OffsetRows.type_reads, Order.table_failure}
 use Rattle.fb_rules.proofs.{Words.word_left, Members.no_member, Members.some_member, Plains.after_twice}
 use Rattle.fb_rules.proofs.leads.put_union.Goals as goal
 

@@ -13,6 +13,3 @@ short tables fields field few narrow near = omega (arith, mul-le tables (4 + fie
 
 pub overflow_add-most : goal.overflow_add-most
 overflow_add-most c = record { fits = short _ _ _ (omega arith) (omega arith) (omega arith) }
-
-pub overflow_mul-most : goal.overflow_mul-most
-overflow_mul-most c = record { fits = omega (arith, (overflow_add-most c).fits) }

@@ -2,8 +2,7 @@ use Rattle.std.proofs.Common.{◌++◌, [], refl}
 use Rattle.std.specs.Prelude.{nat_lt}
 use Rattle.fb_access.specs.declared.answer.Answer.TheVariants.{Absent}
 use Rattle.fb_run.specs.Puts.{queue_of}
-use Rattle.fb_run.proofs.CsvLemmas.{comma, field_more, fields_all}
-use Rattle.fb_run.proofs.PutsLemmas.{puts_none, puts_then}
+use Rattle.fb_run.proofs.{CsvLemmas.comma, CsvLemmas.field_more, CsvLemmas.fields_all, PutsLemmas.puts_none, PutsLemmas.puts_then}
 use Rattle.fb_run.proofs.csv.put_fields.Goals as goal
 
 pub loop-index-init : goal.loop-index-init

@@ -2,8 +2,7 @@ use Rattle.std.proofs.Common.{◌++◌, map}
 use Rattle.std.specs.Prelude.{option_map, vec_items}
 use Rattle.fb_access.specs.Denotes.{shown}
 use Rattle.fb_run.specs.{Csv.name_field, Csv.row_end, Puts.queue_of}
-use Rattle.fb_run.proofs.CsvLemmas.{row_of}
-use Rattle.fb_run.proofs.PutsLemmas.{three_puts}
+use Rattle.fb_run.proofs.{CsvLemmas.row_of, PutsLemmas.three_puts}
 use Rattle.fb_run.proofs.csv.put_row.Goals as goal
 
 pub returns : goal.returns

@@ -7,7 +7,7 @@ abbrev pub invariant-loop-place : goal.invariant-loop-place
 invariant-loop-place l = record {
   within : l.place ≤ reason_count;
   text : l.line ≡ reasons_from l.form (l.place + 1) (drop l.place l.counts) l.initial.line;
-  short : length l.line + 27 * l.place ≤ 582;
+  short : length l.line + 27 * l.place ≤ 150 + 27 * reason_count;
 }
 
 abbrev pub decreases-loop-place : goal.decreases-loop-place

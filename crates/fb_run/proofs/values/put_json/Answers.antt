@@ -3,8 +3,7 @@ use Rattle.std.proofs.lemmas.List.{length-map}
 use Rattle.json.specs.Json.{no_members}
 use Rattle.fb_access.specs.Denotes.{shown}
 use Rattle.fb_run.specs.{Puts.queue_of, Wanted.Wanted}
-use Rattle.fb_run.proofs.JsonLemmas.{asked_parts, line_end, no_more, none_asked}
-use Rattle.fb_run.proofs.PutsLemmas.{three_puts}
+use Rattle.fb_run.proofs.{JsonLemmas.asked_parts, JsonLemmas.line_end, JsonLemmas.no_more, JsonLemmas.none_asked, PutsLemmas.three_puts}
 use Rattle.fb_run.proofs.values.put_json.Goals as goal
 
 pub returns-then-is_empty : goal.returns-then-is_empty

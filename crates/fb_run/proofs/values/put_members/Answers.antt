@@ -1,12 +1,10 @@
 use Rattle.std.proofs.Common.{◌<◌, ◌≤◌, min, ◌++◌, [], ℕ, List, map, length, arith, ap, codes, refl, subst, sym, ◌∙◌}
-use Rattle.std.proofs.lemmas.{List.length-map, List.get_or-map}
+use Rattle.std.proofs.lemmas.List.{length-map, get_or-map}
 use Rattle.std.specs.Prelude.{nat_lt, if◌then◌else◌}
 use Rattle.json.specs.Json.{string}
-use Rattle.fb_access.specs.Denotes.{Shown, nothing, shown}
-use Rattle.fb_access.specs.declared.answer.Answer.TheVariants.{Absent}
+use Rattle.fb_access.specs.{Denotes.Shown, Denotes.nothing, Denotes.shown, declared.answer.Answer.TheVariants.Absent}
 use Rattle.fb_run.specs.{Json.IsValue, Json.json_text, Puts.queue_of, Wanted.Wanted}
-use Rattle.fb_run.proofs.JsonLemmas.{none_yet, one_value_more, part_put, values_end}
-use Rattle.fb_run.proofs.PutsLemmas.{puts_none, puts_then}
+use Rattle.fb_run.proofs.{JsonLemmas.none_yet, JsonLemmas.one_value_more, JsonLemmas.part_put, JsonLemmas.values_end, PutsLemmas.puts_none, PutsLemmas.puts_then}
 use Rattle.fb_run.proofs.values.put_members.Goals as goal
 
 abbrev text_of : Wanted → List ℕ

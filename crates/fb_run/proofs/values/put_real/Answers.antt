@@ -1,9 +1,8 @@
 use Rattle.std.proofs.Common.{◌≡◌, List, ℕ, ◌∙◌, Bool, true, false, codes, sym, true≢false}
 use Rattle.std.specs.Str.{bytes_eq}
-use Rattle.std.proofs.lemmas.{Slice.Eq.bytes_eq-Decides}
+use Rattle.std.proofs.lemmas.Slice.Eq.{bytes_eq-Decides}
 use Rattle.json.specs.Json.{number, string}
-use Rattle.fb_run.proofs.CsvLemmas.{number_put, words_put}
-use Rattle.fb_run.proofs.RealLemmas.{a_number, infinite, negative_infinite, not_a_number}
+use Rattle.fb_run.proofs.{CsvLemmas.number_put, CsvLemmas.words_put, RealLemmas.a_number, RealLemmas.infinite, RealLemmas.negative_infinite, RealLemmas.not_a_number}
 use Rattle.fb_run.proofs.values.put_real.Goals as goal
 
 -- a test of two texts says whether they are the same

@@ -1,5 +1,4 @@
-use Rattle.std.proofs.{Common.rules, KnownBytes.Appends-trans}
-use Rattle.std.proofs.lemmas.List.{take_rest}
+use Rattle.std.proofs.{Common.rules, KnownBytes.Appends-trans, lemmas.List.take_rest}
 use Rattle.fb_run.proofs.InPieces.{front-more}
 use Rattle.fb_run.proofs.writing.push_all.Goals as goal
 

@@ -1,5 +1,5 @@
 use Rattle.std.proofs.Common.{◌^◌}
-use Rattle.fb_schema.proofs.FewLemmas.{below_step, one_beyond, all_below}
+use Rattle.fb_schema.proofs.FewLemmas.{below_step, one_beyond}
 use Rattle.fb_schema.proofs.few.own_few.Goals as goal
 
 pub returns-then-rows-ge-MANY : goal.returns-then-rows-ge-MANY
@@ -7,6 +7,3 @@ returns-then-rows-ge-MANY g c = one_beyond g.O.Owner.count (2 ^ 31) c.args.owner
 
 pub loop-owner-preserved : goal.loop-owner-preserved
 loop-owner-preserved g c = below_step g.O.Owner.count (2 ^ 31) c.args.owners.now c.loop-owner.owner-index c.owner-item.result _ c.loop-owner-test.true c.owner-item.is c.loop-owner.invariant c.rows.ensures.count c.if-rows-ge-MANY.false
-
-pub returns : goal.returns
-returns g c = all_below g.O.Owner.count (2 ^ 31) c.args.owners.now c.loop-owner.owner-index c.loop-owner-test.false c.loop-owner.invariant

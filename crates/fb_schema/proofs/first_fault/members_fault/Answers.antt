@@ -19,7 +19,7 @@ pub returns-in-Some : goal.returns-in-Some
 returns-in-Some g c = (sym (found g (goal.at.returns-in-Some g c).After-member_fault) ∙ c.in-Some.is, c.loop-p.invariant)
 
 pub returns : goal.returns
-returns g c = past_list (map member_of_row c.args.members.now) (demands_of_member (borrowed_rows c.args.rows.now) (map member_of_row c.args.members.now)) (λ q. refl) c.loop-p.p (rw length-map c.loop-p-test.false) c.loop-p.invariant
+returns g c = past_list _ (demands_of_member (borrowed_rows c.args.rows.now) (map member_of_row c.args.members.now)) (λ q. refl) c.loop-p.p (rw length-map c.loop-p-test.false) c.loop-p.invariant
 
 pub loop-p-preserved : goal.loop-p-preserved
 loop-p-preserved g c = below_more _ _ c.loop-p.invariant (sym (found g (goal.at.loop-p-preserved g c).After-member_fault) ∙ c.in_default.is)

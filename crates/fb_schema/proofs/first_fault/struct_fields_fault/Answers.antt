@@ -1,8 +1,7 @@
-use Rattle.std.proofs.Common.{◌≡◌, map, get_or, sym, ◌∙◌, below_more}
-use Rattle.std.proofs.lemmas.Option.{slice_get-get_or}
-use Rattle.fb_schema.specs.{FlatRows.borrowed_rows, Rows.field_of}
-use Rattle.fb_schema.specs.Demands.{first_code, struct_asked}
-use Rattle.fb_schema.proofs.{Blank.blank_field, WalkLemmas.struct_code, WalkLemmas.past_struct}
+use Rattle.std.proofs.Common.{◌≡◌, map, get_or, sym, ◌∙◌, below_more, refl}
+use Rattle.std.proofs.lemmas.{Option.slice_get-get_or, List.length-map}
+use Rattle.fb_schema.specs.{FlatRows.borrowed_rows, Rows.field_of, Demands.demands_of_struct_field, Demands.first_code, Demands.struct_asked}
+use Rattle.fb_schema.proofs.{Blank.blank_field, WalkLemmas.struct_code, WalkLemmas.past_list}
 use Rattle.fb_schema.proofs.first_fault.struct_fields_fault.Goals as goal
 use Rattle.fb_schema.proofs.first_fault.struct_fields_fault.Goals.{After-struct_field_fault}
 
@@ -20,4 +19,4 @@ pub loop-p-preserved : goal.loop-p-preserved
 loop-p-preserved g c = below_more _ _ c.loop-p.invariant (sym (found g (goal.at.loop-p-preserved g c).After-struct_field_fault) ∙ c.in_default.is)
 
 pub returns : goal.returns
-returns g c = past_struct (borrowed_rows c.args.rows.now) c.args.object.now.bytesize c.args.fields.now c.loop-p.p c.loop-p-test.false c.loop-p.invariant
+returns g c = past_list _ (demands_of_struct_field (borrowed_rows c.args.rows.now) c.args.object.now.bytesize (map field_of c.args.fields.now)) (λ q. refl) c.loop-p.p (rw length-map c.loop-p-test.false) c.loop-p.invariant

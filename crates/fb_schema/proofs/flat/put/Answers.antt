@@ -1,4 +1,4 @@
-use Rattle.std.proofs.Common.{◌<◌, ◌^◌, ◌∙◌, ◌++◌, length, map, take_all, ap, sym, subst}
+use Rattle.std.proofs.Common.{◌<◌, ◌^◌, ◌∙◌, ◌++◌, length, ap, sym, subst}
 use Rattle.fb_schema.proofs.{FlatLemmas.pushed, FlatLemmas.parts_step, IndexLemmas.value_step}
 use Rattle.fb_schema.proofs.flat.put.Goals as goal
 
@@ -20,9 +20,3 @@ loop-owner-preserved g c =
           (pushed range_of g.O.Owner.with_rows all own _ c.loop-owner.parts.items _ _ (λ k d lt. let p = parts k d lt in (p.ordered, p.within)) more c.in_ok-push.ensures.items range) c.part.ensures.same;
       parts = parts_step range_of all own _ c.loop-owner.parts.items _ _ parts more c.in_ok-push.ensures.items range few;
     }
-
-pub returns-clause-value : goal.returns-clause-value
-returns-clause-value g c = c.loop-owner.invariant.value ∙ ap (map g.O.Owner.whole) (take_all c.loop-owner.owner-index c.args.owners.now c.loop-owner-test.false)
-
-pub returns-clause-parts : goal.returns-clause-parts
-returns-clause-parts g c = c.loop-owner.invariant.parts

@@ -1,8 +1,7 @@
 use Rattle.std.proofs.Common.{◌≡◌, ◌+◌, ◌-◌, ◌<◌, map, length, sym, ◌∙◌, ap, arith, length-set}
 use Rattle.std.proofs.lemmas.List.{length-map}
 use Rattle.fb_schema.specs.Live.{live_of_view}
-use Rattle.fb_schema.proofs.Blank.{blank_view}
-use Rattle.fb_schema.proofs.NextRequired.{first_from, first_at_end, first_here, first_later, filled_more}
+use Rattle.fb_schema.proofs.{Blank.blank_view, NextRequired.first_from, NextRequired.first_at_end, NextRequired.first_here, NextRequired.first_later, NextRequired.filled_more}
 use Rattle.fb_schema.proofs.indexing.next_required.Goals as goal
 use Rattle.fb_schema.proofs.indexing.next_required.Goals.{then-fields-i, else-fields-i}
 

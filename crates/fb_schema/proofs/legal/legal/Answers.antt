@@ -4,6 +4,3 @@ use Rattle.fb_schema.proofs.legal.legal.Goals as goal
 
 pub returns-clause-legal : goal.returns-clause-legal
 returns-clause-legal g c = legal_if (borrowed_rows c.args.rows.now) c.unions_legal.result c.in_ok-objects_legal.ensures.clear c.unions_legal.ensures.clear
-
-pub unions_legal-requires-clause-objects : goal.unions_legal-requires-clause-objects
-unions_legal-requires-clause-objects g c = c.in_ok-objects_legal.ensures.clear

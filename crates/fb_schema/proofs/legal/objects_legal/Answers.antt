@@ -1,9 +1,7 @@
 use Rattle.std.proofs.Common.{◌≡◌, Some, slice_get, get_or, refl, sym, ◌∙◌, inl}
 use Rattle.std.proofs.lemmas.{List.length-map, Option.slice_get-get_or}
-use Rattle.fb_schema.specs.declared.flat.ObjectPart.{ObjectPart}
-use Rattle.fb_schema.specs.FlatRows.{borrowed_rows}
-use Rattle.fb_schema.proofs.Blank.{blank_object}
-use Rattle.fb_schema.proofs.OwnerLemmas.{refused_object, refused_field, clear_object, all_owners}
+use Rattle.fb_schema.specs.{declared.flat.ObjectPart.ObjectPart, FlatRows.borrowed_rows}
+use Rattle.fb_schema.proofs.{Blank.blank_object, OwnerLemmas.refused_object, OwnerLemmas.refused_field, OwnerLemmas.clear_object, OwnerLemmas.all_owners}
 use Rattle.fb_schema.proofs.legal.objects_legal.Goals as goal
 use Rattle.fb_schema.proofs.{legal.objects_legal.Goals.After-object_fault, DemandLaws.owners_end}
 

@@ -1,10 +1,8 @@
 use Rattle.std.proofs.Common.{◌≡◌, ◌<◌, ◌+◌, ◌++◌, ◌∷◌, [], ℕ, List, cond, not, true, false, get_or, filter, take, length, ap, sym, ◌∙◌, arith, rules}
-use Rattle.std.proofs.lemmas.{List.append-nil, List.Elements.filter_more}
-use Rattle.std.proofs.lemmas.List.Sorted.{IsNonDecreasingBy-from_sort_by_key, length_permutation}
+use Rattle.std.proofs.lemmas.List.{append-nil, Elements.filter_more, Sorted.IsNonDecreasingBy-from_sort_by_key, Sorted.length_permutation}
 use Rattle.std.proofs.Math.Seq.{take-length}
 use Rattle.std.specs.List.Sorted.{IsNonDecreasingBy}
-use Rattle.fb_schema.specs.{Live.is_live, Rows.field_of}
-use Rattle.fb_schema.specs.declared.rows.FieldRow.{FieldRow}
+use Rattle.fb_schema.specs.{Live.is_live, Rows.field_of, declared.rows.FieldRow.FieldRow}
 use Rattle.fb_schema.proofs.LiveLemmas.{live_value, live_rising, shorter}
 use Rattle.fb_schema.proofs.live.live_rows.Goals as goal
 use Rattle.fb_schema.proofs.live.live_rows.Goals.{After-sort_unstable_by_key, then-not-field+in_ok-push, else-not-field}

@@ -1,7 +1,6 @@
 use Rattle.std.proofs.Common.{◌≡◌, true, false, ap, sym, ◌∙◌, arith, is_eq}
 use Rattle.std.specs.Cmp.{Equal-is}
-use Rattle.fb_schema.proofs.Numbers.{get_or_default}
-use Rattle.fb_schema.proofs.OrderLemmas.{least_apart, least_alike, least_first, neighbours}
+use Rattle.fb_schema.proofs.{Numbers.get_or_default, OrderLemmas.least_apart, OrderLemmas.least_alike, OrderLemmas.least_first, OrderLemmas.neighbours}
 use Rattle.fb_schema.proofs.sorting.first_again.Goals as goal
 use Rattle.fb_schema.proofs.sorting.first_again.Goals.{then-eq, else-eq}
 

@@ -1,10 +1,8 @@
 use Rattle.std.proofs.Common.{◌<◌, pos, List, Some, map, length, get_or, FitsSigned, w64, sym, ap, subst, ◌∙◌, arith, rules, option_and_then, int_cmp, None}
 use Rattle.std.proofs.lemmas.{Int.to_z-of_z, Option.get_or_from_slice_get, List.length-map, List.get_or-map}
-use Rattle.fb_schema.specs.declared.rows.MemberRow.{MemberRow}
-use Rattle.fb_schema.specs.{Kinds.kind_of, Sorting.IsPlaceOf, Sorting.member_value, Rows.Rows, Rows.Member, Rows.member_of_row}
+use Rattle.fb_schema.specs.{declared.rows.MemberRow.MemberRow, Kinds.kind_of, Sorting.IsPlaceOf, Sorting.member_value, Rows.Rows, Rows.Member, Rows.member_of_row}
 use Rattle.fb_schema.specs.Targets.{kind_among, AreSorted}
-use Rattle.fb_schema.proofs.{Blank.blank_member, NextRequired.item_lent}
-use Rattle.fb_schema.proofs.UnionLemmas.{none_for_zero, value_place}
+use Rattle.fb_schema.proofs.{Blank.blank_member, NextRequired.item_lent, UnionLemmas.none_for_zero, UnionLemmas.value_place}
 use Rattle.fb_schema.proofs.targets.kind_at.Goals as goal
 use Rattle.fb_schema.proofs.{targets.kind_at.Goals.After-place_of, WalkLemmas.mapped_at}
 use Rattle.std.proofs.lemmas.Option.{slice_get-get_or}

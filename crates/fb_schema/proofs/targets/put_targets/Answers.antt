@@ -1,6 +1,5 @@
 use Rattle.std.proofs.Common.{ℕ, ◌≤◌, map, sym, ap, arith}
-use Rattle.fb_schema.specs.{FlatRows.borrowed_rows, Rows.member_of_row}
-use Rattle.fb_schema.specs.Targets.{target_of, kind_among}
+use Rattle.fb_schema.specs.{FlatRows.borrowed_rows, Rows.member_of_row, Targets.target_of, Targets.kind_among}
 use Rattle.fb_schema.proofs.TargetLemmas.{zero_target, found_below, lead_on, none_beyond}
 use Rattle.fb_schema.proofs.targets.put_targets.Goals as goal
 

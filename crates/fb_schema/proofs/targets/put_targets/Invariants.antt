@@ -1,7 +1,6 @@
 use Rattle.std.proofs.Common.{List, map}
-use Rattle.fb_schema.specs.declared.rows.MemberRow.{MemberRow}
-use Rattle.fb_schema.specs.{FlatRows.borrowed_rows, Rows.member_of_row}
-use Rattle.fb_schema.specs.Targets.{target_of, kind_among, AreSorted, LeadBelow}
+use Rattle.fb_schema.specs.{declared.rows.MemberRow.MemberRow, FlatRows.borrowed_rows, Rows.member_of_row, Targets.target_of, Targets.kind_among, Targets.AreSorted}
+use Rattle.fb_schema.specs.Targets.{LeadBelow}
 use Rattle.fb_schema.proofs.targets.put_targets.Given as goal
 
 abbrev pub invariant-loop-value : goal.invariant-loop-value

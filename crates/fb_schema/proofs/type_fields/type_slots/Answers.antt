@@ -1,6 +1,5 @@
 use Rattle.std.proofs.Common.{◌≡◌, ◌==◌, ◌+◌, map, take, length, sym, ap, ◌∙◌, arith}
-use Rattle.std.proofs.lemmas.List.Sorted.{list_any-IsPermutation}
-use Rattle.std.proofs.Math.Seq.{take-length}
+use Rattle.std.proofs.{lemmas.List.Sorted.list_any-IsPermutation, Math.Seq.take-length}
 use Rattle.fb_schema.specs.{Rows.field_of, Demands.stands_below, Demands.is_type_field}
 use Rattle.fb_schema.proofs.SlotLemmas.{slot_added, slot_dead, slot_other}
 use Rattle.fb_schema.proofs.type_fields.type_slots.Goals as goal

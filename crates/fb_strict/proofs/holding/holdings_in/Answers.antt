@@ -1,8 +1,7 @@
 use Rattle.std.proofs.Common.{sym, ap, ◌∙◌, map}
 use Rattle.fb_bfbs.specs.Marks.{marked}
 use Rattle.fb_strict.specs.Holding.{holding_of, is_lost, IsPlanFault}
-use Rattle.fb_strict.proofs.Lists.{keeps, leaves_out, none_yet}
-use Rattle.fb_strict.proofs.Holds.{lost_at, item_made, err_told}
+use Rattle.fb_strict.proofs.{Lists.keeps, Lists.leaves_out, Lists.none_yet, Holds.lost_at, Holds.item_made, Holds.err_told}
 use Rattle.fb_strict.proofs.holding.holdings_in.Goals as goal
 use Rattle.fb_strict.proofs.holding.holdings_in.Goals.{in-Some+in_ok-put, in_default}
 

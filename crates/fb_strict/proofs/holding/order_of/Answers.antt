@@ -2,8 +2,7 @@ use Rattle.std.proofs.Common.{◌≡◌, ◌<◌, ◌+◌, ◌++◌, ◌∷◌, 
 use Rattle.std.specs.Prelude.{IsPermutation}
 use Rattle.fb_schema.specs.Sorting.{numbered}
 use Rattle.fb_schema.proofs.KeyLemmas.{numbered_more}
-use Rattle.fb_strict.specs.declared.holding.Holding.{Holding}
-use Rattle.fb_strict.specs.Holding.{Slotted, field_of}
+use Rattle.fb_strict.specs.{declared.holding.Holding.Holding, Holding.Slotted, Holding.field_of}
 use Rattle.fb_strict.proofs.holding.order_of.Goals as goal
 
 -- one holding more, with its field

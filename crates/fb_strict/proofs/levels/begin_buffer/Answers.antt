@@ -1,11 +1,7 @@
 use Rattle.std.proofs.Common.{[], sym, ap, subst, ◌∙◌, length}
 use Rattle.fb_bytes.specs.Word.{Lent}
-use Rattle.fb_strict.specs.declared.demands.Demands.{Demands}
-use Rattle.fb_strict.specs.Planned.{Planned}
-use Rattle.fb_strict.specs.Asked.{demands_in, demands_of}
-use Rattle.fb_strict.specs.Passing.{Passing, wants_of, IsNext}
-use Rattle.fb_strict.proofs.Buffers.{rest_of, too_short, short_halts, its_next}
-use Rattle.fb_strict.proofs.Legs.{root_quiet, root_begins, root_halts}
+use Rattle.fb_strict.specs.{declared.demands.Demands.Demands, Planned.Planned, Asked.demands_in, Asked.demands_of, Passing.Passing, Passing.wants_of, Passing.IsNext}
+use Rattle.fb_strict.proofs.{Buffers.rest_of, Buffers.too_short, Buffers.short_halts, Buffers.its_next, Legs.root_quiet, Legs.root_begins, Legs.root_halts}
 use Rattle.fb_strict.proofs.levels.begin_buffer.Goals as goal
 
 -- src/levels.rt

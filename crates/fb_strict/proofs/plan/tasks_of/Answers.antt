@@ -1,6 +1,5 @@
 use Rattle.std.proofs.Common.{sym, ◌∙◌, ap}
-use Rattle.fb_strict.specs.Demanded.{demanded}
-use Rattle.fb_strict.specs.Planned.{all_wants, tasks_in}
+use Rattle.fb_strict.specs.{Demanded.demanded, Planned.all_wants, Planned.tasks_in}
 use Rattle.fb_strict.proofs.Marks.{no_fields}
 use Rattle.fb_strict.proofs.plan.tasks_of.Goals as goal
 

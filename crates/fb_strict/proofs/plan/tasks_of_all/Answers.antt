@@ -1,7 +1,6 @@
 use Rattle.std.proofs.Common.{ap, sym, subst, map, ◌∙◌}
 use Rattle.std.proofs.lemmas.List.{map-append}
-use Rattle.fb_strict.specs.Demanded.{demanded}
-use Rattle.fb_strict.specs.Planned.{all_wants, AreTasks}
+use Rattle.fb_strict.specs.{Demanded.demanded, Planned.all_wants, Planned.AreTasks}
 use Rattle.fb_strict.proofs.Marks.{tasks_then}
 use Rattle.fb_strict.proofs.plan.tasks_of_all.Goals as goal
 

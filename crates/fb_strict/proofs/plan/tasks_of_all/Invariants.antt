@@ -1,6 +1,5 @@
 use Rattle.std.proofs.Common.{map}
-use Rattle.fb_strict.specs.Demanded.{demanded}
-use Rattle.fb_strict.specs.Planned.{all_wants, AreTasks}
+use Rattle.fb_strict.specs.{Demanded.demanded, Planned.all_wants, Planned.AreTasks}
 use Rattle.fb_strict.proofs.plan.tasks_of_all.Given as goal
 
 abbrev pub invariant-loop-object : goal.invariant-loop-object

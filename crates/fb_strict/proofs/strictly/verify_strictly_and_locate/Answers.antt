@@ -2,8 +2,7 @@ use Rattle.std.proofs.Common.{◌≤◌, ap, arith, length}
 use Rattle.std.proofs.lemmas.Result.{IfOk-weaker, IfErr-weaker}
 use Rattle.fb_rules.specs.Question.{Question}
 use Rattle.fb_strict.specs.Strictly.{StopsAlongStrictly}
-use Rattle.fb_strict.proofs.{Bounded.strict_cost_is_bounded, Bounded.strict_reads_are_bounded, OneVerdict.stops_has_none}
-use Rattle.fb_strict.proofs.Locating.{along_front}
+use Rattle.fb_strict.proofs.{Bounded.strict_cost_is_bounded, Bounded.strict_reads_are_bounded, OneVerdict.stops_has_none, Locating.along_front}
 use Rattle.fb_strict.proofs.strictly.verify_strictly_and_locate.Goals as goal
 
 -- src/strictly.rt

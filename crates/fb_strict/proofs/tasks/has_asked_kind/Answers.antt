@@ -2,8 +2,7 @@ use Rattle.std.proofs.Common.{sym, ap, ◌∙◌}
 use Rattle.std.specs.List.{list_any}
 use Rattle.fb_schema.specs.Live.{Live, live_of_view}
 use Rattle.fb_schema.proofs.Blank.{blank_view}
-use Rattle.fb_strict.specs.Demanded.{demanded}
-use Rattle.fb_strict.specs.{Skipped.is_kind_asked, Planned.all_wants}
+use Rattle.fb_strict.specs.{Demanded.demanded, Skipped.is_kind_asked, Planned.all_wants}
 use Rattle.fb_strict.proofs.{Lists.one_does, Marks.kind_there}
 use Rattle.fb_strict.proofs.tasks.has_asked_kind.Goals as goal
 

@@ -1,7 +1,5 @@
 use Rattle.std.proofs.Common.{sym, ap, refl, ◌∙◌}
-use Rattle.fb_strict.specs.Demanded.{demanded}
-use Rattle.fb_strict.specs.Skipped.{is_member_asked}
-use Rattle.fb_strict.specs.Planned.{all_wants}
+use Rattle.fb_strict.specs.{Demanded.demanded, Skipped.is_member_asked, Planned.all_wants}
 use Rattle.fb_strict.proofs.Queues.{no_member_yet, has_member, no_more_member}
 use Rattle.fb_strict.proofs.tasks.has_asked_member.Goals as goal
 

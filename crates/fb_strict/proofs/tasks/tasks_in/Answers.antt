@@ -1,8 +1,7 @@
 use Rattle.std.proofs.Common.{sym, ◌∙◌, ap, get_or, option_map}
 use Rattle.fb_schema.specs.Live.{live_of_view}
 use Rattle.fb_schema.proofs.Blank.{blank_view}
-use Rattle.fb_strict.specs.Demanded.{demanded}
-use Rattle.fb_strict.specs.Planned.{all_wants, task_of, task_with}
+use Rattle.fb_strict.specs.{Demanded.demanded, Planned.all_wants, Planned.task_of, Planned.task_with}
 use Rattle.fb_strict.proofs.{Lists.keeps, Lists.leaves_out, Marks.kind_there}
 use Rattle.fb_strict.proofs.tasks.tasks_in.Goals as goal
 use Rattle.fb_strict.proofs.tasks.tasks_in.Goals.{in-Some+in_ok-push, in_default}

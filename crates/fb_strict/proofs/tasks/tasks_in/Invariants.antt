@@ -1,7 +1,6 @@
 use Rattle.std.proofs.Common.{◌≡◌, map, take}
 use Rattle.fb_schema.specs.Live.{live_of_view}
-use Rattle.fb_strict.specs.Demanded.{demanded}
-use Rattle.fb_strict.specs.Planned.{all_wants, tasks_in}
+use Rattle.fb_strict.specs.{Demanded.demanded, Planned.all_wants, Planned.tasks_in}
 use Rattle.fb_strict.proofs.tasks.tasks_in.Given as goal
 
 abbrev pub invariant-loop-field : goal.invariant-loop-field

@@ -1,11 +1,10 @@
-use Rattle.std.proofs.Common.{◌≡◌, ℕ, ◌+◌, ◌-◌, ◌*◌, ◌^◌, ◌<◌, ◌≤◌, refl, arith}
+use Rattle.std.proofs.Common.{refl, arith}
 use Rattle.fb_rules.specs.{Cost.head_reads, Order.head_failure, Plain.IsTested}
 use Rattle.fb_verify.specs.Flat.{PassesFlat}
 use Rattle.fb_rules.proofs.{Few.head_few, Heads.first_fails, Heads.head_reads_parts, Heads.vtable_tested}
-use Rattle.fb_verify.proofs.Alike.{alike_passes}
-use Rattle.fb_verify.proofs.Flats.{flat_holds, flat_many, flat_between, flat_room, flat_came, flat_kept, head_flat, reason_of}
-use Rattle.fb_verify.proofs.flat.pass_alike.Goals as goal
+use Rattle.fb_verify.proofs.{Alike.alike_passes, Flats.flat_holds, Flats.flat_many, Flats.flat_between, Flats.flat_room, Flats.flat_came, Flats.flat_kept, Flats.head_flat, Flats.reason_of}
 use Rattle.fb_verify.proofs.flat.pass_alike.Goals.{After-test_vtable-failed, After-pass_steps}
+use Rattle.fb_verify.proofs.flat.pass_alike.Goals as goal
 
 pub returns-in-Err-clause-passes : goal.returns-in-Err-clause-passes
 returns-in-Err-clause-passes g c =
@@ -49,20 +48,6 @@ came g c = flat_came c.requires.0 (tested g (goal.at.After-pass_steps g c).After
 pub returns-in-Ok-pass_steps-clause-passes : goal.returns-in-Ok-pass_steps-clause-passes
 returns-in-Ok-pass_steps-clause-passes g c = rw c.in-Ok-pass_steps.is at (came g (goal.at.returns-in-Ok-pass_steps-clause-passes g c).After-pass_steps)
 
--- On numbers.
-
-short_end : {n q h k : ℕ} (m s : ℕ) → n ≤ q + 6 * k → q ≡ m + h → h ≤ 3 → s ≡ k → m + 3 + 6 * s < 2 ^ 56 → n < 2 ^ 57
-short_end m s most counted few many short = omega arith
-
-short_begun : {f : ℕ} (m s : ℕ) → f ≡ m + 1 → m + 3 + 6 * s < 2 ^ 56 → f < 2 ^ 57
-short_begun m s counted short = omega arith
-
-spent_alike : {n f q : ℕ} (m e b h s v : ℕ) → e ≡ n → b ≡ f → n ≡ q + s → q ≡ m + h → f ≡ m + 1 → h ≡ 1 + v → e - b ≡ v + s
-spent_alike m e b h s v end begun paid counted first parts = omega arith
-
-few_alike : {n f q : ℕ} (m e b h s : ℕ) {k : ℕ} → e ≡ n → b ≡ f → n ≤ q + 6 * k → q ≡ m + h → f ≡ m + 1 → h ≤ 3 → s ≡ k → e - b ≤ 2 + 6 * s
-few_alike m e b h s end begun paid counted first few many = omega arith
-
 pub returns-in-Ok-pass_steps-clause-kept : goal.returns-in-Ok-pass_steps-clause-kept
 returns-in-Ok-pass_steps-clause-kept g c none =
     let e = tested g (goal.at.returns-in-Ok-pass_steps-clause-kept g c).After-test_vtable-failed in
@@ -73,16 +58,16 @@ returns-in-Ok-pass_steps-clause-kept g c none =
     let first = rw c.in-Ok.is at c.test_first_word.ensures in
     let many = flat_many r e c.in_default.is head in
     let few = head_few (g.going).walk.checks in
-    let end = c.count.ensures.all (short_end _ _ kept.2 counted few many r.short) in
-    let begun = c.count-begun.ensures.all (short_begun _ _ first.counted r.short) in
+    let end = c.count.ensures.all (omega (arith, kept.2, counted, few, many, r.short)) in
+    let begun = c.count-begun.ensures.all (omega (arith, first.counted, r.short)) in
     record {
       small = (c.requires.1).small;
       holds = λ some. rw r.same (record {
         head = flat_holds r e c.in_default.is head;
         vtable = first.value;
         hold = rw r.its kept.0;
-        reads = rw r.its (spent_alike _ _ _ _ _ _ end begun kept.1 counted first.counted (head_reads_parts (g.going).walk.checks));
-        few = few_alike _ _ _ _ _ end begun kept.2 counted first.counted few many;
+        reads = rw r.its (omega (arith, end, begun, kept.1, counted, first.counted, head_reads_parts (g.going).walk.checks));
+        few = omega (arith, end, begun, kept.2, counted, first.counted, few, many);
       });
     }
 

@@ -1,13 +1,11 @@
-use Rattle.std.proofs.Common.{◌≡◌, ◌+◌, ◌-◌, ◌%◌, ℕ, suc, length, map, drop, List, sym, ◌∙◌, ap, subst, arith, slice_get, Some, refl}
+use Rattle.std.proofs.Common.{add-one, ◌≡◌, ◌+◌, ◌-◌, ◌%◌, ℕ, length, map, drop, List, sym, ◌∙◌, ap, subst, arith, slice_get, Some, refl}
 use Rattle.std.proofs.lemmas.{List.length-map, List.length-drop, Option.slice_get_within}
 use Rattle.fb_schema.specs.{Live.Live, Live.live_fields, Steps.step_of}
 use Rattle.fb_rules.specs.Plain.{HasBit, IsStep}
 use Rattle.fb_verify.specs.PassesOn.{IsBetween}
 use Rattle.fb_rules.proofs.Plains.{each_step, kind_step, bit_at}
-use Rattle.fb_verify.proofs.Passing.{AtStep}
-use Rattle.fb_verify.proofs.Passing.{left_from, GoesBy, goes_first, ends_behind, step_by, came_to}
+use Rattle.fb_verify.proofs.{Passing.AtStep, Passing.left_from, Passing.GoesBy, Passing.goes_first, Passing.ends_behind, Passing.step_by, Passing.came_to, flat.pass_by.Goals.In-Some}
 use Rattle.fb_verify.proofs.flat.pass_by.Goals as goal
-use Rattle.fb_verify.proofs.flat.pass_by.Goals.{In-Some}
 
 -- the live fields of the table, and the place of the one that comes
 abbrev fields : (g : _) → In-Some g → List Live
@@ -56,9 +54,6 @@ returns-in_default-pass_step g c =
       came = came_to c.loop-step.invariant.goes (here g d) c.pass_step.new.reads c.pass_step.new.at c.pass_step.result c.in_default-pass_step.not-Past (rw (c.requires.1.1.0, c.requires.1.1.1.0) at c.pass_step.ensures);
     }
 
-successor : (n : ℕ) {m : ℕ} → n + 1 ≡ m → suc n ≡ m
-successor n same = omega arith
-
 pub loop-step-preserved : goal.loop-step-preserved
 loop-step-preserved g c =
     let d = (goal.at.loop-step-preserved g c).In-Some in
@@ -68,8 +63,7 @@ loop-step-preserved g c =
     let rest = c.in-Some.ensures.cases in
     let steps = map step_of (fields g d) in
     let next : place g d + 1 ≡ length (fields g d) - length c.in-Some.more.now = omega (arith, rest.1, ap length i.rest, length-drop (place g d) steps, length-map (fields g d) step_of) in
-    let up = successor (place g d) next in
-    let left = (left_from steps (place g d) c.in-Some.step.now c.in-Some.more.now (sym rest.0 ∙ i.rest)).1 ∙ ap (λ n. drop n steps) up in
+    let left = (left_from steps (place g d) c.in-Some.step.now c.in-Some.more.now (sym rest.0 ∙ i.rest)).1 ∙ ap (λ n. drop n steps) (rw add-one at next) in
     let between = subst (λ n. IsBetween (g.of).walk c.pass_step.new.reads (g.of).under (record (g.of).top { next = n })) next on.0 in
     let goes = subst (λ n. GoesBy (g.of).walk c.args.reads.now c.pass_step.new.reads (g.of).top n) next on.1 in
     record { base = (passed.tested).base ∙ i.base; within = omega (arith, i.within, rest.1); rest = left; between = between; goes = goes }

@@ -1,8 +1,7 @@
 use Rattle.std.proofs.Common.{refl}
 use Rattle.fb_verify.specs.Flat.{PassesFlat}
-use Rattle.fb_verify.proofs.Flats.{flat_between, flat_room, flat_came, head_flat, reason_of}
+use Rattle.fb_verify.proofs.{Flats.flat_between, Flats.flat_room, Flats.flat_came, Flats.head_flat, Flats.reason_of, flat.pass_flat.Goals.In_default, flat.pass_flat.Goals.After-pass_steps}
 use Rattle.fb_verify.proofs.flat.pass_flat.Goals as goal
-use Rattle.fb_verify.proofs.flat.pass_flat.Goals.{In_default, After-pass_steps}
 
 pub pass_steps-requires : goal.pass_steps-requires
 pass_steps-requires g c =

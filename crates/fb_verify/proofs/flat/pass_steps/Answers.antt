@@ -1,18 +1,14 @@
-use Rattle.std.proofs.Common.{◌≡◌, ℕ, ◌-◌, List, map, take, drop, length, option_map, slice_get, refl, sym, ◌∙◌, ap, arith, Some, None, Ok, [], false}
+use Rattle.std.proofs.Common.{◌≡◌, ℕ, ◌-◌, List, map, drop, length, option_map, slice_get, refl, sym, ◌∙◌, ap, arith, Some, None, Ok, [], false}
 use Rattle.std.proofs.lemmas.{List.length-map, List.length-drop, List.take_all, List.drop_all, List.Elements.All-nil, Option.slice_get-map}
 use Rattle.fb_bytes.specs.Word.{Lent}
-use Rattle.fb_schema.specs.declared.views.Step.{Step}
-use Rattle.fb_schema.specs.{Rows.Rows, Live.Live, Live.live_fields, Live.next_required, Steps.step_of}
+use Rattle.fb_schema.specs.{Rows.Rows, Live.Live, Live.live_fields, Live.next_required, Steps.step_of, declared.views.Step.Step}
 use Rattle.fb_schema.proofs.Numbers.{slice_get_some}
-use Rattle.fb_rules.specs.declared.{fault.Reason.Reason, plain.Came.Came, table.Table.Table}
-use Rattle.fb_verify.specs.declared.{scratch.Frame.Frame, stack.Walk.Walk}
-use Rattle.fb_rules.specs.declared.plain.Came.TheVariants.{Past, ToEnd, ToField, ToFault}
-use Rattle.fb_rules.specs.Plain.{plain_failure, steps_reads}
-use Rattle.fb_verify.specs.{PassesOn.EndsBehind, PassesOn.CameTo, PassesOn.PassesOn, Stack.Waiting}
-use Rattle.fb_verify.proofs.Passing.{rest_holds, rest_free}
-use Rattle.fb_verify.proofs.Passing.{AtStep, rest_absent, required_within, required_stops}
-use Rattle.fb_verify.proofs.flat.pass_steps.Goals as goal
+use Rattle.fb_rules.specs.{Plain.plain_failure, Plain.steps_reads, declared.fault.Reason.Reason, declared.plain.Came.Came}
+use Rattle.fb_rules.specs.declared.{plain.Came.TheVariants.Past, plain.Came.TheVariants.ToEnd, plain.Came.TheVariants.ToField, plain.Came.TheVariants.ToFault, table.Table.Table}
+use Rattle.fb_verify.specs.{PassesOn.EndsBehind, PassesOn.CameTo, PassesOn.PassesOn, Stack.Waiting, declared.scratch.Frame.Frame, declared.stack.Walk.Walk}
+use Rattle.fb_verify.proofs.Passing.{rest_holds, rest_free, AtStep, rest_absent, required_within, required_stops}
 use Rattle.fb_verify.proofs.flat.pass_steps.Goals.{After-next_required}
+use Rattle.fb_verify.proofs.flat.pass_steps.Goals as goal
 
 -- where fields were passed that neither lead on nor fail, the rest lies behind the vtable
 ends : (w : Walk) (m new : Lent) (under : Waiting) (top past : Frame) (at : ℕ) (came : Came) → (came ≡ ToField → ⊥) → ((reason : Reason) → came ≡ ToFault reason → ⊥) → CameTo w m new under top past at came → EndsBehind w m new under top past
@@ -25,14 +21,13 @@ ends w m new under top past at (ToFault reason) leads fails h = absurd (fails re
 all_steps : {steps : List Step} (S : Rows) (table : Table) (top : Frame) → table ≡ top.table → steps ≡ map step_of (live_fields S table.object) → length steps ≡ length (live_fields S (top.table).object)
 all_steps S table top same its = ap length its ∙ length-map (live_fields S table.object) step_of ∙ ap (λ (x : Table). length (live_fields S x.object)) same
 
-left_of : (steps : List Step) (n : ℕ) → take (length steps - n) (drop n steps) ≡ drop n steps
-left_of steps n = take_all (length steps - n) (drop n steps) (omega (arith, length-drop n steps))
-
 pub pass_by-came-requires : goal.pass_by-came-requires
 pass_by-came-requires g c =
     let S = (g.of).walk.schema.now in
     let steps = c.requires.1.1.1.1.1.1.0 ∙ ap (λ (x : Table). map step_of (live_fields S x.object)) c.requires.1.1.1.1.0 in
-    let left = left_of c.args.steps.now c.args.next.now ∙ ap (λ n. drop n c.args.steps.now) c.requires.1.1.1.1.1.0 ∙ ap (drop (g.of).top.next) steps in
+    let all = c.args.steps.now in
+    let n = c.args.next.now in
+    let left = take_all (length all - n) (drop n all) (omega (arith, length-drop n all)) ∙ ap (λ k. drop k all) c.requires.1.1.1.1.1.0 ∙ ap (drop (g.of).top.next) steps in
     (c.requires.0, (c.requires.1.0, (c.requires.1.1.0, (c.requires.1.1.1.1.0, left))))
 
 pub returns-in-ToField : goal.returns-in-ToField

@@ -1,21 +1,16 @@
-use Rattle.std.proofs.Common.{ℕ, ◌≡◌, ◌+◌, ◌^◌, ◌<◌, ◌≤◌, List, min, max, length, IsTrue, None, ap, refl, sym, subst, ◌∙◌, [], arith}
+use Rattle.std.proofs.Common.{◌+◌, ◌≤◌, List, min, max, length, IsTrue, None, ap, refl, sym, subst, ◌∙◌, [], arith}
 use Rattle.fb_schema.specs.Rows.{is_table}
-use Rattle.fb_rules.specs.{Question.Question, Question.question, Told.stopped, Told.way_at, WellFormed.start_reads, Verdict.Reports}
-use Rattle.fb_rules.specs.declared.{fault.Report.Report, start.Ident.Ident, start.Start.Start}
-use Rattle.fb_rules.specs.declared.site.LastLink.TheVariants.{Behind}
+use Rattle.fb_rules.specs.{Question.Question, Question.question, Told.stopped, Told.way_at, WellFormed.start_reads, Verdict.Reports, declared.fault.Report.Report, declared.start.Ident.Ident}
+use Rattle.fb_rules.specs.declared.{start.Start.Start, site.LastLink.TheVariants.Behind}
 use Rattle.fb_bytes.specs.Word.{Lent}
 use Rattle.fb_rules.proofs.Refusals.{unfailed}
-use Rattle.fb_verify.specs.declared.scratch.Frame.{Frame}
-use Rattle.fb_verify.specs.Stack.{HaltsAlong, StopsIn, last_link, links_left}
+use Rattle.fb_verify.specs.{Stack.HaltsAlong, Stack.StopsIn, Stack.last_link, Stack.links_left, declared.scratch.Frame.Frame}
 use Rattle.fb_verify.proofs.Turning.{walked_over}
 use Rattle.fb_verify.proofs.Verdicts.{halts_at_start, halts_below, reports_all, fault_along, none_along, price_of_no, price_of_yes}
 use Rattle.fb_verify.proofs.verdict.trace.Goals as goal
 
 few_words : (start : Start) (ident : Ident) → start_reads start ident ≤ 3
 few_words start ident = grind arith
-
-few_start : (n m : ℕ) {k : ℕ} → k ≤ 3 → m ≡ 0 → n ≡ m + k → n < 2 ^ 90
-few_start n m few fresh counted = omega arith
 
 pub returns-in-Err : goal.returns-in-Err
 returns-in-Err c =
@@ -37,7 +32,7 @@ run-requires c =
     let table = subst (λ (q : Question). IsTrue (is_table q.rows q.root)) back c.requires.table in
     let some = subst (λ (q : Question). min (q.limits).depth 1 ≤ length c.args.frames.now) back c.requires.some in
     let room = subst (λ (q : Question). (q.limits).depth ≤ max 64 (length c.args.frames.now)) back c.requires.room in
-    (refl, (c.lawful.ensures.served, (table, (near, (some, (room, (omega arith, (omega arith, (asked.reads, few_start _ _ (few_words i.start i.ident) c.requires.fresh (ap (λ (m : Lent). m.count) asked.counted))))))))))
+    (refl, (c.lawful.ensures.served, (table, (near, (some, (room, (omega arith, (omega arith, (asked.reads, omega (arith, few_words i.start i.ident, c.requires.fresh, ap (λ (m : Lent). m.count) asked.counted))))))))))
 
 pub returns-in-Ok-run : goal.returns-in-Ok-run
 returns-in-Ok-run c =
@@ -49,7 +44,7 @@ returns-in-Ok-run c =
     let ran = c.in-Ok-run.ensures in
     let report : Report = record { tables = c.run.new.self.tables; depth = c.run.new.self.deepest; reads = c.reads.result } in
     let all = reports_all (question i.schema.now i.root i.start i.ident i.limits i.checks) c.args.loan.now c.answer.new.loan c.requires.fresh _ at asked c.run.new.self.tables c.run.new.self.deepest c.run.new.loan.count c.reads.result
-    (rw asked.bytes at (walked_over _ _ _ _ _ ran)) ran.within ran.shallow ran.reads c.reads.ensures.count in
+    (rw asked.bytes at (walked_over ran)) ran.within ran.shallow ran.reads c.reads.ensures.count in
     let t = subst (λ q. Reports q c.args.loan.now.bytes report) c.question.view_is all in
     let count = c.reads.ensures.count in
     record { yes = t; none = tt; deep = tt; no = tt; along = tt; price = omega (arith, price_of_yes t, count); read = sym count; bytes = ran.bytes ∙ asked.bytes }

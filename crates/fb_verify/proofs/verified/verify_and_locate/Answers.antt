@@ -1,15 +1,10 @@
-use Rattle.std.proofs.Common.{◌≡◌, ℕ, ◌≤◌, List, take, refl, sym, ◌∙◌, ap, subst, arith}
+use Rattle.std.proofs.Common.{ℕ, List, take, refl, sym, ◌∙◌, ap, subst}
 use Rattle.std.specs.List.{All}
 use Rattle.fb_rules.specs.{Stops.Stops, Told.stopped}
 use Rattle.fb_rules.proofs.Price.{reads_are_bounded}
 use Rattle.fb_verify.specs.{Sealed.Sealed, Stack.IsLinked}
 use Rattle.fb_verify.proofs.Verdicts.{links_along, price_of_yes, sealed_kept}
 use Rattle.fb_verify.proofs.verified.verify_and_locate.Goals as goal
-
--- On numbers.
-
-enough : {a b c : ℕ} → a ≤ b → c ≡ b → a ≤ c
-enough h same = omega arith
 
 pub of-requires-clause-reports : goal.of-requires-clause-reports
 of-requires-clause-reports c =
@@ -28,10 +23,10 @@ pub located-requires-clause-linked : goal.located-requires-clause-linked
 located-requires-clause-linked c =
     let a = c.args in
     let bytes = ap (λ m. m.bytes) c.settle.ensures.count ∙ ap (λ m. m.bytes) c.lend-loan.ensures.untold ∙ sym (ap (λ m. m.bytes) c.lend-loan.ensures.lent) in
-    subst (λ (b : List ℕ). All (IsLinked a.question.now.checks b a.question.now.rows) (take c.in-Err.halt.links c.trace-answer.new.frames)) (sym bytes) (c.in-Err.ensures.along (enough c.requires.room c.trace-answer.auto.frames)).linked
+    subst (λ (b : List ℕ). All (IsLinked a.question.now.checks b a.question.now.rows) (take c.in-Err.halt.links c.trace-answer.new.frames)) (sym bytes) (c.in-Err.ensures.along (rw c.trace-answer.auto.frames c.requires.room)).linked
 
 pub located-requires-clause-frames : goal.located-requires-clause-frames
-located-requires-clause-frames c = enough c.requires.room c.trace-answer.auto.frames
+located-requires-clause-frames c = rw c.trace-answer.auto.frames c.requires.room
 
 pub returns-in-Err : goal.returns-in-Err
 returns-in-Err c =
@@ -47,7 +42,7 @@ returns-in-Err c =
       kept = tt;
       none = rw lent at e.none;
       no = no;
-      along = links_along (rw lent at (e.along (enough c.requires.room c.trace-answer.auto.frames))) fault bytes l.links;
+      along = links_along (rw lent at (e.along (rw c.trace-answer.auto.frames c.requires.room))) fault bytes l.links;
       few = l.within;
       price_of_yes = tt;
       price_of_no = reads_are_bounded a.question.now a.meter.bytes _ no;

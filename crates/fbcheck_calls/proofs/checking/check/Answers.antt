@@ -1,7 +1,6 @@
 use Rattle.std.proofs.Common.{sym, subst}
 use Rattle.fbcheck_calls.specs.Answered.{IfSchema, IsChecked}
-use Rattle.fbcheck_calls.proofs.HandleLemmas.{levels_taken}
-use Rattle.fbcheck_calls.proofs.checking.check.Goals.{in-Room, in-Schema}
+use Rattle.fbcheck_calls.proofs.{HandleLemmas.levels_taken, checking.check.Goals.in-Room, checking.check.Goals.in-Schema}
 use Rattle.fbcheck_calls.proofs.checking.check.Goals as goal
 
 pub returns-clause-told : goal.returns-clause-told

@@ -1,7 +1,6 @@
 use Rattle.std.proofs.Common.{rules}
 use Rattle.fbcheck_calls.specs.declared.outcome.Outcome.TheVariants.{NoRoot}
-use Rattle.fbcheck_calls.proofs.HandleLemmas.{levels_taken, levels_of_none, read_by}
-use Rattle.fbcheck_calls.proofs.checking.read.Goals.{in-Room, in-Schema-inside}
+use Rattle.fbcheck_calls.proofs.{HandleLemmas.levels_taken, HandleLemmas.levels_of_none, HandleLemmas.read_by, checking.read.Goals.in-Room, checking.read.Goals.in-Schema-inside}
 use Rattle.fbcheck_calls.proofs.checking.read.Goals as goal
 
 pub returns-in_default-clause-told : goal.returns-in_default-clause-told

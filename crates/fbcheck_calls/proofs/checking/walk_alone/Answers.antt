@@ -1,21 +1,10 @@
-use Rattle.std.proofs.Common.{ap, None}
 use Rattle.fb_rules.specs.declared.fault.{Fault.Fault, Report.Report}
-use Rattle.fbcheck_calls.specs.Told.{found_by}
-use Rattle.fbcheck_calls.specs.declared.outcome.Outcome.{Outcome}
-use Rattle.fbcheck_calls.proofs.AnswerLemmas.{plain_is_plain}
-use Rattle.fbcheck_calls.proofs.BegunLemmas.{found_is_checked, unchecked_is_checked}
+use Rattle.fbcheck_calls.proofs.{AnswerLemmas.plain_is_plain, BegunLemmas.found_told, BegunLemmas.told_as, BegunLemmas.unchecked_is_checked}
 use Rattle.fbcheck_calls.proofs.checking.walk_alone.Goals as goal
 
 pub returns-in-Err-clause-told : goal.returns-in-Err-clause-told
-returns-in-Err-clause-told c =
-    let t = c.in-Err.ensures.starts in
-    (t.answer, t.told, unchecked_is_checked c.args.basis.now 64 c.args.options.now c.args.buffer.now t.answer t.holds)
+returns-in-Err-clause-told c = told_as _ (unchecked_is_checked c.args.basis.now _ c.args.options.now c.args.buffer.now) c.in-Err.ensures.starts
 
 pub returns-clause-told : goal.returns-clause-told
 returns-clause-told c =
-    let found = c.walk-found in
-    let answer : Outcome = found_by (λ (r : Report). r) (λ (f : Fault). f) found.result in (
-      answer,
-      c.tell_found.ensures.told,
-      found_is_checked c.args.basis.now 64 c.args.options.now c.args.buffer.now c.in-Ok.begun c.in-Ok.ensures.starts.0 c.in-Ok.ensures.starts.1 c.metered.result.bytes c.metered.ensures.bytes None (plain_is_plain c.args.basis.now c.args.options.now c.requires.plain) (λ r. r) (λ f. f) found.result found.ensures.yes found.ensures.none found.ensures.no,
-    )
+    found_told (record { starts = c.in-Ok.ensures.starts; same = c.metered.ensures.bytes; plan_is = plain_is_plain c.args.basis.now c.args.options.now c.requires.plain }) (λ (r : Report). r) (λ (f : Fault). f) c.walk-found.result c.tell_found.ensures.told c.walk-found.ensures.yes c.walk-found.ensures.none c.walk-found.ensures.no

@@ -1,6 +1,5 @@
 use Rattle.std.proofs.Common.{◌≡◌, ◌∙◌, sym, None, Some}
-use Rattle.fb_access.specs.Denotes.{next_spot}
-use Rattle.fb_access.specs.declared.step.Step.TheVariants.{Element}
+use Rattle.fb_access.specs.{Denotes.next_spot, declared.step.Step.TheVariants.Element}
 use Rattle.fbcheck_calls.proofs.EachLemmas.{no_element, told_of_element}
 use Rattle.fbcheck_calls.proofs.each.element_told.Goals as goal
 

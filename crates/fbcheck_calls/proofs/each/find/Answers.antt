@@ -1,7 +1,6 @@
 use Rattle.std.proofs.Common.{◌++◌}
 use Rattle.fb_access.proofs.Tested.{changed}
-use Rattle.fbcheck_calls.proofs.AgainLemmas.{end_at, end_is_other, from_root, root_is_other}
-use Rattle.fbcheck_calls.proofs.EachLemmas.{seen_is_told}
+use Rattle.fbcheck_calls.proofs.{AgainLemmas.end_at, AgainLemmas.end_is_other, AgainLemmas.from_root, AgainLemmas.root_is_other, EachLemmas.seen_is_told}
 use Rattle.fbcheck_calls.proofs.each.find.Goals as goal
 
 pub returns-in_err-spot : goal.returns-in_err-spot

@@ -1,5 +1,5 @@
 use Rattle.std.proofs.Common.{◌+◌}
-use Rattle.fbcheck_calls.specs.{Each.AreFilled, Walks.IsElementTold}
+use Rattle.fbcheck_calls.specs.{Again.AreFilled, Walks.IsElementTold}
 use Rattle.fbcheck_calls.proofs.each.tell_elements.Given as goal
 
 -- each element below this place is told

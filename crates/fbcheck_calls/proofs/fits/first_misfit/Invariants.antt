@@ -1,6 +1,5 @@
 use Rattle.std.proofs.Common.{ℕ, ◌<◌, get_or}
-use Rattle.fbcheck_calls.specs.declared.steps.PlainPath.{PlainPath}
-use Rattle.fbcheck_calls.specs.Steps.{FitsFrom}
+use Rattle.fbcheck_calls.specs.{Steps.FitsFrom, declared.steps.PlainPath.PlainPath}
 use Rattle.fbcheck_calls.proofs.fits.first_misfit.Given as goal
 
 -- the paths before this place fit

@@ -1,9 +1,8 @@
-use Rattle.std.proofs.Common.{◌≡◌, ◌∷◌, ◌+◌, ◌<◌, sym, subst, add-one, drop, drop-cons, get_or, length, arith, None, Some}
+use Rattle.std.proofs.Common.{◌≡◌, ◌+◌, sym, subst, drop, get_or, arith, None, Some}
 use Rattle.std.proofs.lemmas.Bool.{false≢true}
 use Rattle.fb_access.specs.Fitting.{next_kind}
-use Rattle.fbcheck_calls.specs.declared.steps.PlainStep.{PlainStep}
-use Rattle.fbcheck_calls.specs.Steps.{FitFrom, step_of}
-use Rattle.fbcheck_calls.proofs.FitLemmas.{fit_back, fit_on, fits_not}
+use Rattle.fbcheck_calls.specs.Steps.{FitFrom, no_step, step_of}
+use Rattle.fbcheck_calls.proofs.{FitLemmas.fit_back, FitLemmas.fit_on, FitLemmas.fits_not, StepLemmas.next_of}
 use Rattle.fbcheck_calls.proofs.fits.steps_fit.Goals as goal
 
 pub loop-given-preserved : goal.loop-given-preserved
@@ -12,13 +11,11 @@ loop-given-preserved c =
     let kind = c.loop-given.kind in
     let i = c.loop-given.given-index in
     let steps = c.args.steps.now in
-    let none : PlainStep = record { kind = 0; number = 0 } in
-    let given = get_or steps i none in
+    let given = get_or steps i no_step in
     let rest = drop (i + 1) steps in
     let s = c.in-Some.step in
     let to = c.in-Some-next_kind.next in
-    let within : i < length steps = omega arith in
-    let cons : drop i steps ≡ given ∷ rest = rw add-one (drop-cons steps i none within) in
+    let cons = next_of steps i no_step (omega arith) in
     let found : step_of given ≡ Some s = sym c.in-Some.ensures in
     let leads : next_kind S kind s ≡ Some to = sym c.in-Some-next_kind.ensures in
     record {
@@ -32,11 +29,9 @@ returns-in-None c =
     let kind = c.loop-given.kind in
     let i = c.loop-given.given-index in
     let steps = c.args.steps.now in
-    let none : PlainStep = record { kind = 0; number = 0 } in
-    let given = get_or steps i none in
+    let given = get_or steps i no_step in
     let s = c.in-Some.step in
-    let within : i < length steps = omega arith in
-    let cons : drop i steps ≡ given ∷ drop (i + 1) steps = rw add-one (drop-cons steps i none within) in
+    let cons = next_of steps i no_step (omega arith) in
     let found : step_of given ≡ Some s = sym c.in-Some.ensures in
     let ends : next_kind S kind s ≡ None = sym c.in-None.ensures in
     (λ t. absurd (false≢true t), λ h. absurd (fits_not S kind given (drop (i + 1) steps) s found ends (subst (λ r. FitFrom S kind r) cons (c.loop-given.invariant.on h))))

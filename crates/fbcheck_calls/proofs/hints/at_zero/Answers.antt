@@ -1,7 +1,6 @@
 use Rattle.std.proofs.Common.{◌≡◌, ◌+◌, ◌∙◌, ◌++◌, ap}
 use Rattle.std.proofs.Math.ListN.{set}
-use Rattle.fbcheck_calls.proofs.HintLemmas.{written_back}
-use Rattle.fbcheck_calls.proofs.StarLemmas.{zero_set}
+use Rattle.fbcheck_calls.proofs.{HintLemmas.written_back, StarLemmas.zero_set}
 use Rattle.fbcheck_calls.proofs.hints.at_zero.Goals as goal
 
 pub returns : goal.returns

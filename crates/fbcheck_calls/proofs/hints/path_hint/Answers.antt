@@ -1,6 +1,5 @@
 use Rattle.std.proofs.Common.{◌≡◌, ◌∙◌, subst, sym}
-use Rattle.fbcheck_calls.specs.Asked.{root_asked}
-use Rattle.fbcheck_calls.specs.declared.options.Options.{Options}
+use Rattle.fbcheck_calls.specs.{Asked.root_asked, declared.options.Options.Options}
 use Rattle.fbcheck_calls.proofs.HintLemmas.{nothing_told}
 use Rattle.fbcheck_calls.proofs.hints.path_hint.Goals as goal
 

@@ -1,10 +1,7 @@
 use Rattle.std.proofs.Common.{ℕ, ◌≤◌, ◌+◌, List, length, take, arith}
 use Rattle.fb_schema.specs.Rows.{Rows}
-use Rattle.fb_access.specs.declared.step.Step.{Step}
-use Rattle.fb_access.specs.Resolving.{Resolves}
-use Rattle.fbcheck_calls.specs.declared.steps.PlainPath.{PlainPath}
-use Rattle.fbcheck_calls.specs.Marked.{HasMark, at_zero}
-use Rattle.fbcheck_calls.specs.Resolved.{IsPathFor}
+use Rattle.fb_access.specs.{Resolving.Resolves, declared.step.Step.Step}
+use Rattle.fbcheck_calls.specs.{Marked.HasMark, Marked.at_zero, Resolved.IsPathFor, declared.steps.PlainPath.PlainPath}
 use Rattle.fbcheck_calls.proofs.StarLemmas.{before_refused, before_short, each_after}
 use Rattle.fbcheck_calls.proofs.resolving.marked_path.Goals as goal
 
@@ -22,17 +19,13 @@ few S root text at mark p found before g =
 
 pub overflow_cast-each : goal.overflow_cast-each
 overflow_cast-each c =
-    let found = rw (c.deref.ensures.value, c.in-Ok.ensures) at c.in_ok-path.ensures in
-    let is = c.steps.ensures in
-    let most : length c.in-Ok-resolve.before + 1 ≤ 31 = few c.args.schema.now c.args.root c.args.text.now c.args.at c.requires.mark c.in_ok-path.path found c.in-Ok-resolve.before c.in-Ok-resolve.ensures.steps in
-    rw is (omega arith)
+    let most = few _ _ _ _ c.requires.mark c.in_ok-path.path (rw (c.deref.ensures.value, c.in-Ok.ensures) at c.in_ok-path.ensures) c.in-Ok-resolve.before c.in-Ok-resolve.ensures.steps in
+    rw c.steps.ensures (omega (arith, most))
 
 pub overflow_add-each : goal.overflow_add-each
 overflow_add-each c =
-    let found = rw (c.deref.ensures.value, c.in-Ok.ensures) at c.in_ok-path.ensures in
-    let is = c.steps.ensures in
-    let most : length c.in-Ok-resolve.before + 1 ≤ 31 = few c.args.schema.now c.args.root c.args.text.now c.args.at c.requires.mark c.in_ok-path.path found c.in-Ok-resolve.before c.in-Ok-resolve.ensures.steps in
-    rw is (omega arith)
+    let most = few _ _ _ _ c.requires.mark c.in_ok-path.path (rw (c.deref.ensures.value, c.in-Ok.ensures) at c.in_ok-path.ensures) c.in-Ok-resolve.before c.in-Ok-resolve.ensures.steps in
+    rw c.steps.ensures (omega (arith, most))
 
 pub returns : goal.returns
 returns c =

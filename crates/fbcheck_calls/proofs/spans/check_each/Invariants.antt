@@ -1,6 +1,5 @@
 use Rattle.std.proofs.Common.{◌≡◌, ℕ, ◌<◌, length, get_or}
-use Rattle.fbcheck_calls.specs.{Answered.levels, Spans.IsSpanTold}
-use Rattle.fbcheck_calls.specs.declared.{outcome.Verdict.Verdict, spans.Span.Span}
+use Rattle.fbcheck_calls.specs.{Answered.levels, Spans.IsSpanTold, declared.outcome.Verdict.Verdict, declared.spans.Span.Span}
 use Rattle.fbcheck_calls.proofs.spans.check_each.Given as goal
 
 -- the handle holds what it held, and each verdict below this place is told

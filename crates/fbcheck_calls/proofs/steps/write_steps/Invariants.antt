@@ -1,6 +1,5 @@
 use Rattle.std.proofs.Common.{◌≡◌, List, ◌++◌, drop, take}
-use Rattle.fbcheck_calls.specs.declared.steps.PlainStep.{PlainStep}
-use Rattle.fbcheck_calls.specs.Steps.{AreSteps}
+use Rattle.fbcheck_calls.specs.{Steps.AreSteps, declared.steps.PlainStep.PlainStep}
 use Rattle.fbcheck_calls.proofs.steps.write_steps.Given as goal
 
 -- the steps before this place stand in front

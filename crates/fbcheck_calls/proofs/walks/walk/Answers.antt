@@ -1,11 +1,9 @@
-use Rattle.std.proofs.Common.{◌≡◌, ◌∙◌, ◌+◌, ◌<◌, [], ◌∷◌, ◌++◌, refl, sym, subst, add-one, drop, drop-cons, get_or, length, arith, None, Some}
+use Rattle.std.proofs.Common.{◌≡◌, ◌∙◌, ◌+◌, [], ◌++◌, refl, sym, subst, drop, get_or, arith, None, Some}
 use Rattle.std.proofs.lemmas.List.{drop_all}
 use Rattle.fb_access.specs.Denotes.{next_spot}
 use Rattle.fb_access.proofs.{StepKinds.kinds_go_on, Staying.step_stays, Tested.changed}
-use Rattle.fbcheck_calls.specs.{Steps.AreSteps, Steps.FitHere, Steps.step_of, Walks.LeadTo}
-use Rattle.fbcheck_calls.specs.declared.steps.PlainStep.{PlainStep}
-use Rattle.fbcheck_calls.proofs.AgainLemmas.{no_step_fits, stuck_fits}
-use Rattle.fbcheck_calls.proofs.StepLemmas.{IsReachedBy, fit_more, reaches_more}
+use Rattle.fbcheck_calls.specs.{Steps.AreSteps, Steps.FitHere, Steps.no_step, Steps.step_of, Walks.LeadTo}
+use Rattle.fbcheck_calls.proofs.{AgainLemmas.no_step_fits, AgainLemmas.stuck_fits, StepLemmas.IsReachedBy, StepLemmas.fit_more, StepLemmas.next_of, StepLemmas.reaches_more}
 use Rattle.fbcheck_calls.proofs.walks.walk.Goals as goal
 
 pub loop-given-init : goal.loop-given-init
@@ -25,12 +23,10 @@ returns-in_default c =
     let i = c.loop-given.given-index in
     let S = c.args.schema.now in
     let steps = c.args.steps.now in
-    let none : PlainStep = record { kind = 0; number = 0 } in
-    let given = get_or steps i none in
+    let given = get_or steps i no_step in
     let p = c.loop-given.spot in
     let stuck : step_of given ≡ None = sym c.step.ensures ∙ c.in_default.is in
-    let within : i < length steps = omega arith in
-    let cons : drop i steps ≡ given ∷ drop (i + 1) steps = rw add-one (drop-cons steps i none within) in
+    let cons = next_of steps i no_step (omega arith) in
     λ rest h. no_step_fits S p given (drop (i + 1) steps ++ rest) stuck (subst (λ left. FitHere S p (left ++ rest)) cons (c.loop-given.invariant.fit rest h))
 
 pub returns-in-None : goal.returns-in-None
@@ -39,13 +35,11 @@ returns-in-None c =
     let b = c.args.window.now in
     let S = c.args.schema.now in
     let steps = c.args.steps.now in
-    let none : PlainStep = record { kind = 0; number = 0 } in
-    let given = get_or steps i none in
+    let given = get_or steps i no_step in
     let p = c.loop-given.spot in
     let s = c.in-Some.step in
     let found : step_of given ≡ Some s = sym c.in-Some.ensures in
-    let within : i < length steps = omega arith in
-    let cons : drop i steps ≡ given ∷ drop (i + 1) steps = rw add-one (drop-cons steps i none within) in
+    let cons = next_of steps i no_step (omega arith) in
     let stuck : next_spot b S p s ≡ None = sym c.in_ok-to.ensures.0 ∙ c.in-None.is in
     λ rest h. stuck_fits S p given (drop (i + 1) steps ++ rest) b s found stuck (subst (λ left. FitHere S p (left ++ rest)) cons (c.loop-given.invariant.fit rest h))
 
@@ -55,14 +49,12 @@ loop-given-preserved c =
     let b = c.args.window.now in
     let S = c.args.schema.now in
     let steps = c.args.steps.now in
-    let none : PlainStep = record { kind = 0; number = 0 } in
-    let given = get_or steps i none in
+    let given = get_or steps i no_step in
     let p = c.loop-given.spot in
     let q = c.in-Some-2.to in
     let s = c.in-Some.step in
     let found : step_of given ≡ Some s = sym c.in-Some.ensures in
-    let within : i < length steps = omega arith in
-    let cons : drop i steps ≡ given ∷ drop (i + 1) steps = rw add-one (drop-cons steps i none within) in
+    let cons = next_of steps i no_step (omega arith) in
     let leads : next_spot b S p s ≡ Some q = sym c.in_ok-to.ensures.0 ∙ c.in-Some-2.is in
     let end = LeadTo b S c.args.from steps in
     record {

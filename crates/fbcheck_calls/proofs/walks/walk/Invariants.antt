@@ -1,8 +1,7 @@
 use Rattle.std.proofs.Common.{List, ◌++◌, drop}
 use Rattle.fb_schema.specs.Served.{IsServed}
 use Rattle.fb_access.specs.{Held.IsSpot, Tested.IsTested}
-use Rattle.fbcheck_calls.specs.declared.steps.PlainStep.{PlainStep}
-use Rattle.fbcheck_calls.specs.{Steps.FitHere, Walks.LeadTo}
+use Rattle.fbcheck_calls.specs.{Steps.FitHere, Walks.LeadTo, declared.steps.PlainStep.PlainStep}
 use Rattle.fbcheck_calls.proofs.StepLemmas.{IsReachedBy}
 use Rattle.fbcheck_calls.proofs.walks.walk.Given as goal
 

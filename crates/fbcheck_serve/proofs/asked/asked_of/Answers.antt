@@ -1,10 +1,9 @@
-use Rattle.std.proofs.Common.{IfErr, List, Option, Result, ap, ℕ, rules, subst, sym, ◌∙◌}
-use Rattle.fbcheck_serve.specs.declared.asked.Asked.{Asked}
-use Rattle.fbcheck_texts.specs.declared.{fault.AskFault.AskFault, fault.AskFault.TheVariants.NoRoot, hint.Unasked.Unasked}
+use Rattle.std.proofs.Common.{List, Option, ap, ℕ, rules, subst, sym, ◌∙◌}
 use Rattle.fbcheck_serve.specs.{Asked.IsFound, Asked.LacksIdent, Asked.options_of, Inputs.label_of, Inputs.with_label, Checking.LacksJob, Checking.own_of}
+use Rattle.fbcheck_serve.specs.declared.{fault.AskFault.TheVariants.NoRoot}
 use Rattle.fb_run.specs.Job.{Serves, job_of}
-use Rattle.fb_run.proofs.RunLemmas.{err_exit}
-use Rattle.fbcheck_serve.proofs.AskedLemmas.{hinted, path_untold, planless_untold, planned}
+use Rattle.fb_run.proofs.RunLemmas.{err_is}
+use Rattle.fbcheck_serve.proofs.{AskedLemmas.path_untold, AskedLemmas.planless_untold, AskedLemmas.planned, ByteLemmas.hinted}
 use Rattle.fbcheck_serve.proofs.asked.asked_of.Goals as goal
 
 pub returns-clause-job : goal.returns-clause-job
@@ -41,7 +40,7 @@ returns-in_default-find_ident-clause-none c =
       paths_are = rw c.as_slice.ensures.value at c.in_ok-paths.ensures.paths;
       none = sym (c.find_ident.ensures loaded.root) ∙ search rules;
     } in
-    subst (λ (u : Unasked). LacksJob c.args.schema_bytes c.args.settings.now u.fault) (sym c.plain.ensures) (loaded.schema, own_of loaded, c.in-Ok.ensures.schema, lacks, tt)
+    rw c.plain.ensures (loaded.schema, own_of loaded, c.in-Ok.ensures.schema, lacks, tt)
 
 pub returns-in-Err-clause-none : goal.returns-in-Err-clause-none
 returns-in-Err-clause-none c = c.schemaless.ensures
@@ -49,7 +48,7 @@ returns-in-Err-clause-none c = c.schemaless.ensures
 pub returns-in_err-paths-clause-none : goal.returns-in_err-paths-clause-none
 returns-in_err-paths-clause-none c =
     let loaded = c.in-Ok.loaded in
-    err_exit c.from_residual.result _ (λ (r : Result Asked Unasked). IfErr r (λ u. LacksJob c.args.schema_bytes c.args.settings.now u.fault)) c.from_residual.ensures.1
+    rw (err_is _ _ c.from_residual.ensures.1)
     (path_untold c.args.schema_bytes c.args.settings.now loaded.schema (own_of loaded) c.in-Some.root _ c.in-Ok.ensures.schema
     (sym c.find_root.ensures.number ∙ c.in-Some.is) (rw c.as_slice.ensures.value at c.in_err-paths.ensures.none))
 
@@ -67,17 +66,16 @@ returns-in_err-plan-clause-none c =
       ident = c.in-Some-find_ident.ident;
       ident_is = sym (c.find_ident.ensures loaded.root) ∙ c.in-Some-find_ident.is;
     } in
-    err_exit c.from_residual-in_err-plan.result _ (λ (r : Result Asked Unasked). IfErr r (λ u. LacksJob c.args.schema_bytes c.args.settings.now u.fault)) c.from_residual-in_err-plan.ensures.1
+    rw (err_is _ _ c.from_residual-in_err-plan.ensures.1)
     (planless_untold c.args.schema_bytes c.args.settings.now loaded.schema (own_of loaded) _ c.in-Ok.ensures.schema found c.in_err-plan.ensures.no)
 
 pub returns-in_default-clause-none : goal.returns-in_default-clause-none
 returns-in_default-clause-none c =
-    hinted c.args.schema_bytes c.args.settings.now NoRoot c.new.result.fault c.root_hint-hint.result c.new.ensures
-    (c.in-Ok.loaded.schema, own_of c.in-Ok.loaded, c.in-Ok.ensures.schema, sym c.find_root.ensures.number ∙ c.in_default.is, tt)
+    hinted (LacksJob c.args.schema_bytes c.args.settings.now) NoRoot c.new.result.fault c.root_hint-hint.result c.new.ensures
+    (c.in-Ok.loaded.schema, own_of c.in-Ok.loaded, c.in-Ok.ensures.schema, sym c.find_root.ensures.number ∙ c.in_default.is, tt) tt
 
 pub returns-in_default-label-clause-none : goal.returns-in_default-label-clause-none
-returns-in_default-label-clause-none c =
-    subst (λ (u : Unasked). LacksJob c.args.schema_bytes c.args.settings.now u.fault) (sym c.plain-in_default-label.ensures) tt
+returns-in_default-label-clause-none c = rw c.plain-in_default-label.ensures tt
 
 pub returns-clause-serves : goal.returns-clause-serves
 returns-clause-serves c =
@@ -94,5 +92,5 @@ returns-clause-head c = c.in_ok-head.ensures.head c.in-Ok.loaded.schema
 
 pub returns-in_err-head-clause-none : goal.returns-in_err-head-clause-none
 returns-in_err-head-clause-none c =
-    err_exit c.from_residual-in_err-head.result _ (λ (r : Result Asked Unasked). IfErr r (λ u. LacksJob c.args.schema_bytes c.args.settings.now u.fault)) c.from_residual-in_err-head.ensures.1
-    (subst (λ (f : AskFault). LacksJob c.args.schema_bytes c.args.settings.now f) (sym c.in_err-head.ensures.none) tt)
+    rw (err_is _ _ c.from_residual-in_err-head.ensures.1)
+    (rw c.in_err-head.ensures.none tt)

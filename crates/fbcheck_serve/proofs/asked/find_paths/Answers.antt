@@ -4,7 +4,8 @@ use Rattle.std.proofs.lemmas.{List.length_push, List.Elements.All-push}
 use Rattle.fb_access.specs.Fitting.{StepsFit}
 use Rattle.fb_schema.specs.declared.kinds.Kind.TheVariants.{Table}
 use Rattle.fb_run.specs.{Job.PathsFit, Wanted.Wanted}
-use Rattle.fbcheck_serve.proofs.PathLemmas.{path_told, pathless, paths_more}
+use Rattle.fbcheck_serve.specs.Checking.{IsPathless}
+use Rattle.fbcheck_serve.proofs.{ByteLemmas.hinted, PathLemmas.path_told, PathLemmas.paths_more}
 use Rattle.fbcheck_serve.proofs.asked.find_paths.Goals as goal
 
 pub loop-text-preserved : goal.loop-text-preserved
@@ -22,9 +23,9 @@ loop-text-preserved c =
 
 pub returns-in-Err-clause-none : goal.returns-in-Err-clause-none
 returns-in-Err-clause-none c =
-    pathless c.args.schema.now c.args.root (map string_bytes c.args.texts.now) c.in-Err.fault c.new.result.fault c.path_hint-hint.result c.new.ensures
+    hinted (IsPathless c.args.schema.now c.args.root (map string_bytes c.args.texts.now)) c.in-Err.fault c.new.result.fault c.path_hint-hint.result c.new.ensures
     (path_told c.args.schema.now c.args.root c.args.texts.now c.loop-text.text-index c.text-item.result (search rules) c.text-item.is c.loop-text.paths.items c.in-Err.fault
-    c.loop-text.invariant.named c.in-Err.ensures.fault)
+    c.loop-text.invariant.named c.in-Err.ensures.fault) tt
 
 pub returns-clause-paths : goal.returns-clause-paths
 returns-clause-paths c = rw (take_all c.loop-text.text-index c.args.texts.now c.loop-text-test.false) at c.loop-text.invariant.named

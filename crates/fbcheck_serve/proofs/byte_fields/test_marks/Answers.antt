@@ -2,7 +2,8 @@ use Rattle.std.proofs.Common.{map}
 use Rattle.fb_bfbs.specs.{ByteFields.is_unmarked, Marks.marked}
 use Rattle.fb_bfbs.proofs.ByteLemmas.{field_within}
 use Rattle.fb_schema.specs.Live.{live_of_view}
-use Rattle.fbcheck_serve.proofs.ByteLemmas.{unmarked_told}
+use Rattle.fbcheck_serve.specs.{ByteFields.Misses, declared.fault.AskFault.TheVariants.UnmarkedBytes}
+use Rattle.fbcheck_serve.proofs.ByteLemmas.{either}
 use Rattle.fbcheck_serve.proofs.byte_fields.test_marks.Goals as goal
 
 pub returns-in-Ok-None-clause-ok : goal.returns-in-Ok-None-clause-ok
@@ -16,5 +17,5 @@ unasked-requires c =
 
 pub returns-in-Ok-Some-clause-no : goal.returns-in-Ok-Some-clause-no
 returns-in-Ok-Some-clause-no c =
-    unmarked_told c.args.schema.now (map marked c.args.marks.now.fields.items) c.args.marks.now.builtins c.unasked.result.fault
-    (_, _, rw c.in-Ok-Some.field-0-is at c.in-Ok-Some.ensures) c.unasked.ensures
+    either (Misses c.args.schema.now (map marked c.args.marks.now.fields.items) c.args.marks.now.builtins) UnmarkedBytes c.unasked.result.fault c.unasked.ensures
+    (_, _, rw c.in-Ok-Some.field-0-is at c.in-Ok-Some.ensures) tt

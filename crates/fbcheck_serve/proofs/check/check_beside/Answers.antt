@@ -1,6 +1,5 @@
 use Rattle.fb_run.specs.{Ends.nowhere, Job.job_of, Leave.ends_of}
-use Rattle.fb_run.proofs.RunLemmas.{err_exit}
-use Rattle.fbcheck_serve.specs.Checking.{IsCheckedBeside}
+use Rattle.fb_run.proofs.RunLemmas.{err_is}
 use Rattle.fbcheck_serve.proofs.AskedLemmas.{idle}
 use Rattle.fbcheck_serve.proofs.check.check_beside.Goals as goal
 
@@ -16,5 +15,4 @@ run_asked-requires-clause-leave g c now prompt unended =
 
 pub returns-in_err-asked-clause-run : goal.returns-in_err-asked-clause-run
 returns-in_err-asked-clause-run g c =
-    let ends = ends_of g.S.Input g.K.Sink g.N.Sink c.args.reader.now c.args.writer.now c.args.notes.now in
-    err_exit c.from_residual.result _ (IsCheckedBeside c.args.schema_bytes c.args.settings.now ends ends) c.from_residual.ensures.1 (c.in_err-asked.ensures.none, idle ends)
+    rw (err_is _ _ c.from_residual.ensures.1) (c.in_err-asked.ensures.none, idle (ends_of g.S.Input g.K.Sink g.N.Sink c.args.reader.now c.args.writer.now c.args.notes.now))

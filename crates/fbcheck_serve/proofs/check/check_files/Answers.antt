@@ -1,17 +1,14 @@
 use Rattle.std.proofs.Common.{◌≡◌, ◌∙◌, None, Some, ap, refl, sym}
 use Rattle.std.specs.Prelude.{option_map, string_bytes}
-use Rattle.fb_run.specs.{Ends.nowhere, Ends.writer_of, Job.job_of}
-use Rattle.fb_run.proofs.RunLemmas.{err_exit}
-use Rattle.fbcheck_serve.specs.Keeping.{IsServedKeeping, maker_of}
+use Rattle.fb_run.specs.{Ends.nowhere, Ends.writer_of, Job.job_of, Leave.ends_of}
+use Rattle.fb_run.proofs.RunLemmas.{err_is}
+use Rattle.fbcheck_serve.specs.{Keeping.maker_of, Inputs.seen_of}
 use Rattle.fbcheck_serve.proofs.{AskedLemmas.idle, KeepingLemmas.keeps_none, KeepingLemmas.keeps_some}
-use Rattle.fbcheck_serve.specs.Inputs.{folder_of, seen_of}
 use Rattle.fbcheck_serve.proofs.check.check_files.Goals as goal
 
 pub returns-in_err-asked-clause-served : goal.returns-in_err-asked-clause-served
 returns-in_err-asked-clause-served g c =
-    let seen = seen_of g.S.Input g.S.Explains g.K.Sink g.N.Sink c.args.reader.now c.args.writer.now c.args.notes.now in
-    err_exit c.from_residual.result _ (IsServedKeeping (maker_of g.F.Makes g.F.Made.Sink c.args.files.now) (folder_of g.F.Files g.F.Opened.Input g.F.Opened.Explains c.args.files.now) c.args.schema_bytes c.args.settings.now c.args.names.now seen seen)
-    c.from_residual.ensures.1 (c.in_err-asked.ensures.none, idle seen.ends)
+    rw (err_is _ _ c.from_residual.ensures.1) (c.in_err-asked.ensures.none, idle (ends_of g.S.Input g.K.Sink g.N.Sink c.args.reader.now c.args.writer.now c.args.notes.now))
 
 pub returns-in-Err-clause-served : goal.returns-in-Err-clause-served
 returns-in-Err-clause-served g c =

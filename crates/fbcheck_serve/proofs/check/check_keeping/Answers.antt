@@ -1,15 +1,14 @@
 use Rattle.std.proofs.Common.{◌≡◌, ◌∙◌, None, Some, ap, refl, sym}
 use Rattle.std.specs.Prelude.{option_map, string_bytes}
 use Rattle.fb_run.specs.{Ends.nowhere, Ends.writer_of, Job.job_of, Leave.ends_of}
-use Rattle.fb_run.proofs.RunLemmas.{err_exit}
-use Rattle.fbcheck_serve.specs.Keeping.{IsCheckedKeeping, maker_of}
+use Rattle.fb_run.proofs.RunLemmas.{err_is}
+use Rattle.fbcheck_serve.specs.Keeping.{maker_of}
 use Rattle.fbcheck_serve.proofs.{AskedLemmas.idle, KeepingLemmas.keeps_none, KeepingLemmas.keeps_some}
 use Rattle.fbcheck_serve.proofs.check.check_keeping.Goals as goal
 
 pub returns-in_err-asked-clause-run : goal.returns-in_err-asked-clause-run
 returns-in_err-asked-clause-run g c =
-    let ends = ends_of g.S.Input g.K.Sink g.N.Sink c.args.reader.now c.args.writer.now c.args.notes.now in
-    err_exit c.from_residual.result _ (IsCheckedKeeping (maker_of g.F.Makes g.F.Made.Sink c.args.files.now) c.args.schema_bytes c.args.settings.now ends ends) c.from_residual.ensures.1 (c.in_err-asked.ensures.none, idle ends)
+    rw (err_is _ _ c.from_residual.ensures.1) (c.in_err-asked.ensures.none, idle (ends_of g.S.Input g.K.Sink g.N.Sink c.args.reader.now c.args.writer.now c.args.notes.now))
 
 pub returns-in-Err-clause-run : goal.returns-in-Err-clause-run
 returns-in-Err-clause-run g c =

@@ -1,4 +1,4 @@
-use Rattle.std.proofs.Common.{◌∙◌, [], Err, Ok, ap, inl, inr, length, refl, ℕ}
+use Rattle.std.proofs.Common.{◌∙◌, [], ap, inl, inr, length, refl, ℕ}
 use Rattle.fb_run.specs.{Ends.with_writer, Ends.writer_of, Job.job_of, Leave.all_ends}
 use Rattle.fbcheck_serve.specs.Heads.{with_head}
 use Rattle.fbcheck_serve.proofs.HeadLemmas.{ends_cut, ends_headed, is_cut, stands}
@@ -12,7 +12,7 @@ returns-clause-run g c =
     inl (
       with_writer before writer,
       c.run_keeping-ran.result.end,
-      stands job [] before c.as_slice-head.result.now writer (Ok tt) (c.as_slice-head.ensures.value ∙ c.requires.head) c.in_default.ensures refl,
+      stands job [] before c.as_slice-head.result.now writer (c.as_slice-head.ensures.value ∙ c.requires.head) c.in_default.ensures,
       c.run_keeping-ran.ensures.run,
       c.with_head.ensures ∙ ap (λ (n : ℕ). with_head n c.run_keeping-ran.result.end) (ap length (c.as_slice-head.ensures.value ∙ c.requires.head)),
     )
@@ -28,7 +28,7 @@ returns-in-Err-clause-run g c =
     let before = all_ends g.S.Input g.K.Sink g.N.Sink g.R.Sink c.args.reader.now c.args.writer.now c.args.notes.now c.args.rejects.now in
     let job = job_of c.args.asked.now.schema c.args.asked.now.options in
     rw c.none.ensures
-    (inr (is_cut job [] before c.as_slice-head.result.now (writer_of g.K.Sink c.write_head.new.writer) (Err c.in-Err.fault) (c.as_slice-head.ensures.value ∙ c.requires.head) c.in-Err.ensures c.in-Err.fault refl, refl))
+    (inr (is_cut job [] before c.as_slice-head.result.now (writer_of g.K.Sink c.write_head.new.writer) (c.as_slice-head.ensures.value ∙ c.requires.head) c.in-Err.fault c.in-Err.ensures, refl))
 
 pub returns-in-Err-clause-end : goal.returns-in-Err-clause-end
 returns-in-Err-clause-end g c =
@@ -40,4 +40,4 @@ run_keeping-ran-requires-clause-leave g c now prompt unended =
     let before = all_ends g.S.Input g.K.Sink g.N.Sink g.R.Sink c.args.reader.now c.args.writer.now c.args.notes.now c.args.rejects.now in
     let job = job_of c.args.asked.now.schema c.args.asked.now.options in
     let writer = writer_of g.K.Sink c.write_head.new.writer in
-    c.requires.leave now (with_writer before writer, stands job [] before c.as_slice-head.result.now writer (Ok tt) (c.as_slice-head.ensures.value ∙ c.requires.head) c.in_default.ensures refl, prompt) unended
+    c.requires.leave now (with_writer before writer, stands job [] before c.as_slice-head.result.now writer (c.as_slice-head.ensures.value ∙ c.requires.head) c.in_default.ensures, prompt) unended

@@ -1,8 +1,7 @@
 use Rattle.std.proofs.Common.{◌≡◌, ◌++◌, ◌+◌, ◌≤◌, List, Option, drop, length, ℕ}
 use Rattle.fb_rules.specs.Reasons.{reason_count}
 use Rattle.fb_run.specs.Job.{Serves, job_of}
-use Rattle.fbcheck_serve.specs.Inputs.{PassesAll, at_first, folder_of, all_seen, with_label, stand, are_named}
-use Rattle.fbcheck_serve.specs.Names.{Named}
+use Rattle.fbcheck_serve.specs.{Inputs.PassesAll, Inputs.at_first, Inputs.folder_of, Inputs.all_seen, Inputs.with_label, Inputs.stand, Inputs.are_named, Names.Named}
 use Rattle.fbcheck_serve.specs.declared.inputs.Standard.TheVariants.{Unread}
 use Rattle.fbcheck_serve.proofs.inputs.pass_files.Given as goal
 

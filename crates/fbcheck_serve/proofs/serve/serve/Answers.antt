@@ -1,7 +1,4 @@
-use Rattle.std.proofs.Common.{Option, subst}
-use Rattle.std.specs.declared.io.ErrorKind.{ErrorKind}
 use Rattle.fb_run.specs.Ends.{writer_of}
-use Rattle.fbcheck_serve.specs.Serving.{Complains}
 use Rattle.fbcheck_serve.proofs.serve.serve.Goals as goal
 
 pub returns-clause-served : goal.returns-clause-served
@@ -16,7 +13,6 @@ returns-clause-served g c = record {
   ending = c.sum_up-ending.result;
   behind = writer_of g.N.Sink c.sum_up-ending.new.notes;
   summed = c.sum_up-ending.ensures;
-  told = subst (λ (write : Option ErrorKind). Complains c.come_to-outcome.new.told (record { read = g.S.Explains.cause c.come_to-outcome.new.reader; write = write }) c.sum_up-ending.result (writer_of g.N.Sink c.sum_up-ending.new.notes) (writer_of g.N.Sink c.tell.new.notes)) c.cause-2.ensures
-      (subst (λ (read : Option ErrorKind). Complains c.come_to-outcome.new.told (record { read = read; write = c.cause-2.result }) c.sum_up-ending.result (writer_of g.N.Sink c.sum_up-ending.new.notes) (writer_of g.N.Sink c.tell.new.notes)) c.cause.ensures c.tell.ensures);
+  told = rw (c.cause.ensures, c.cause-2.ensures) at c.tell.ensures;
   status_is = c.exit_status.ensures;
 }

@@ -1,11 +1,11 @@
-use Rattle.fbcheck_serve.specs.Checking.{LacksPlanBy}
-use Rattle.fbcheck_serve.proofs.StrictLemmas.{err_told, planned_not, planned_so, unmarked_by}
+use Rattle.fb_run.proofs.RunLemmas.{err_is}
+use Rattle.fbcheck_serve.proofs.StrictLemmas.{planned_not, planned_so, unmarked_by}
 use Rattle.fbcheck_serve.proofs.strict.planned_by.Goals as goal
 
 pub returns-in_err-test_marks-clause-no : goal.returns-in_err-test_marks-clause-no
 returns-in_err-test_marks-clause-no c =
-    err_told c.from_residual-in_err-test_marks.result c.in_err-test_marks.field-0.0 (LacksPlanBy c.args.bytes.now c.args.schema.now)
-    c.from_residual-in_err-test_marks.ensures.1 (unmarked_by c.args.bytes.now c.args.schema.now c.in_ok-marks.marks c.in_ok-marks.ensures.yes _ c.in_err-test_marks.ensures.no)
+    rw (err_is _ _ c.from_residual-in_err-test_marks.ensures.1)
+    (unmarked_by c.args.bytes.now c.args.schema.now c.in_ok-marks.marks c.in_ok-marks.ensures.yes _ c.in_err-test_marks.ensures.no)
 
 pub returns-clause-plan : goal.returns-clause-plan
 returns-clause-plan c =

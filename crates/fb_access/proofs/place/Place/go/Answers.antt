@@ -1,13 +1,9 @@
-use Rattle.std.proofs.Common.{sym, ap}
-use Rattle.fb_access.specs.Held.{Placed}
+use Rattle.std.proofs.Common.{sym}
 use Rattle.fb_access.proofs.{StepKinds.allowed_leads, StepKinds.kinds_go_on, Staying.step_stays, Sure.here_goes_on}
 use Rattle.fb_access.proofs.place.Place.go.Goals as goal
 
 pub unreachable-requires : goal.unreachable-requires
 unreachable-requires c = allowed_leads _ _ _ _ c.requires (sym (rw c.in-None.is at c.next.ensures))
-
-pub returns-clause-same : goal.returns-clause-same
-returns-clause-same c = ap (λ (p : Placed). p.sealed) c.self.view_is
 
 pub returns-clause-kinds : goal.returns-clause-kinds
 returns-clause-kinds c = kinds_go_on _ _ _ _ _ (sym (rw c.in-Some.is at c.next.ensures))

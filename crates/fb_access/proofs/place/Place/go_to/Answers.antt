@@ -1,11 +1,5 @@
-use Rattle.std.proofs.Common.{ap}
-use Rattle.fb_access.specs.Held.{Placed}
-use Rattle.fb_access.proofs.{StepKinds.kinds_go_on, Staying.step_stays, Sure.here_goes_on}
-use Rattle.fb_access.proofs.Knowing.{known_leads, known_vtable, known_readable, known_at_table}
+use Rattle.fb_access.proofs.{StepKinds.kinds_go_on, Staying.step_stays, Sure.here_goes_on, Knowing.known_leads, Knowing.known_vtable, Knowing.known_readable}
 use Rattle.fb_access.proofs.place.Place.go_to.Goals as goal
-
-pub unreachable-requires : goal.unreachable-requires
-unreachable-requires c = known_at_table _ _ _ (rw (← c.self.view_is) at c.requires) c.in_default.not-AtTable
 
 pub known_spot-requires-clause-table : goal.known_spot-requires-clause-table
 known_spot-requires-clause-table c = rw c.window.ensures.value (known_vtable _ _ _ _ (rw (← c.self.view_is) at c.requires) _ _ c.in-AtTable.is c.self.invariant.spot)
@@ -14,9 +8,6 @@ pub known_spot-requires-clause-readable : goal.known_spot-requires-clause-readab
 known_spot-requires-clause-readable c =
     let served = rw c.schema.ensures.value at c.lawful.ensures.served in
     rw c.window.ensures.value (known_readable _ _ _ _ (rw (← c.self.view_is) at c.requires) _ _ served c.in-AtTable.is c.self.invariant.spot)
-
-pub returns-clause-same : goal.returns-clause-same
-returns-clause-same c = ap (λ (p : Placed). p.sealed) c.self.view_is
 
 pub returns-clause-leads : goal.returns-clause-leads
 returns-clause-leads c =

@@ -1,6 +1,5 @@
 use Rattle.std.proofs.Common.{[], ◌∷◌, rules, w64}
-use Rattle.fb_access.specs.Denotes.{signed}
-use Rattle.fb_access.specs.declared.step.Step.TheVariants.{Field as ToField}
+use Rattle.fb_access.specs.{Denotes.signed, declared.step.Step.TheVariants.Field as ToField}
 use Rattle.fb_bfbs.specs.{Seen.seen, Describes.IsMemberRow}
 use Rattle.fb_bfbs.proofs.{Narrow.kept, Composed.member_within, Composed.row_here}
 use Rattle.fb_bfbs.proofs.copied.MemberRowFromTable.from_table.Goals as goal

@@ -1,7 +1,6 @@
 use Rattle.std.proofs.Common.{[], ◌∷◌, refl, rules, w32}
 use Rattle.fb_schema.specs.Rows.{field_of}
-use Rattle.fb_access.specs.declared.step.Step.TheVariants.{Field as ToField}
-use Rattle.fb_access.specs.Denotes.{signed}
+use Rattle.fb_access.specs.{declared.step.Step.TheVariants.Field as ToField, Denotes.signed}
 use Rattle.fb_bfbs.specs.{Seen.seen, Describes.IsFieldRow, Describes.IsObjectRow}
 use Rattle.fb_bfbs.proofs.{FixedFields.computing, Narrow.kept, Composed.object_within, Composed.mapped_rows, Composed.row_here}
 use Rattle.fb_bfbs.proofs.copied.ObjectRowFromTable.from_table.Goals as goal

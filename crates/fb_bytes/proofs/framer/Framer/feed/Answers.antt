@@ -1,9 +1,7 @@
 use Rattle.std.proofs.Common.{rules, ◌≡◌, ℕ, List, min, ◌+◌, ◌-◌, ◌<◌, ◌≤◌, true, Err, ◌++◌, length, take, drop, sym, ap, ap₂, ◌∙◌, refl, arith, true≢false, length-append, length-drop, length-take}
-use Rattle.fb_bytes.specs.declared.cut.{Cut.Cut}
-use Rattle.fb_bytes.specs.declared.stream_fault.StreamFault.TheVariants.{Oversize}
-use Rattle.fb_bytes.specs.{Messages.declared, Messages.IsMessage, Framing.Framing, Framing.held_bytes}
-use Rattle.fb_bytes.proofs.MessageLemmas.{declared_front}
-use Rattle.fb_bytes.proofs.FramingLemmas.{Completes, completed-held, completed-front, completed-long, completed-stream, completed-oversize, completed-grown, completed-unfinished, fed-fits, framed-room, framed-within, framed-over}
+use Rattle.fb_bytes.specs.{declared.cut.Cut.Cut, declared.stream_fault.StreamFault.TheVariants.Oversize, Messages.declared, Messages.IsMessage, Framing.Framing, Framing.held_bytes}
+use Rattle.fb_bytes.proofs.{MessageLemmas.declared_front, FramingLemmas.Completes, FramingLemmas.completed-held, FramingLemmas.completed-front, FramingLemmas.completed-long}
+use Rattle.fb_bytes.proofs.FramingLemmas.{completed-stream, completed-oversize, completed-grown, completed-unfinished, fed-fits, framed-room, framed-within, framed-over}
 use Rattle.fb_bytes.proofs.framer.Framer.feed.Goals as goal
 use Rattle.fb_bytes.proofs.framer.Framer.feed.Goals.{After-number_in-declared}
 

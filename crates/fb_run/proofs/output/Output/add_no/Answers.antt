@@ -1,7 +1,7 @@
 use Rattle.std.proofs.Common.{Err, ◌∙◌, ap}
 use Rattle.fb_run.specs.{Ends.writer_of, Job.brief_verdict, Puts.behind, Puts.queue_of, Puts.queues_of, Sums.tally_with}
 use Rattle.fb_run.specs.declared.{tally.Tally.Tally, writing.Pending.Pending, writing.Written.Written}
-use Rattle.fb_run.proofs.ToldLemmas.{added_so, says_told}
+use Rattle.fb_run.proofs.ToldLemmas.{added_so, adds_told, says_told}
 use Rattle.fb_run.proofs.output.Output.add_no.Goals as goal
 
 pub returns : goal.returns
@@ -9,10 +9,13 @@ returns g c =
     let before = queues_of g.K.Sink g.N.Sink g.R.Sink c.args.self.now c.args.writer.now c.args.notes.now c.args.rejects.now in
     let between = queues_of g.K.Sink g.N.Sink g.R.Sink c.say.new.self c.say.new.writer c.args.notes.now c.args.rejects.now in
     let after = queues_of g.K.Sink g.N.Sink g.R.Sink c.keep.new.self c.keep.new.writer c.keep.new.notes c.keep.new.rejects in
-    let says = rw (c.spot-spot.ensures, c.begin.ensures.value) at c.in_ok-say.ensures.ok in
+    let says = rw (c.spot-spot.ensures, c.terms.ensures.value) at c.in_ok-say.ensures.ok in
     let noted = ap (λ (written : Written). behind c.say.new.self.notes.bytes.items written (writer_of g.N.Sink c.args.notes.now)) c.say.ensures.noted in
     let same = ap (λ (p : Pending g.row.A.Denot). queue_of g.R.Sink p c.args.rejects.now) c.say.ensures.rejects in
     let puts = rw c.rejects.ensures at c.keep.ensures.puts in
     let counted = c.keep.ensures.counted ∙ c.count.ensures ∙ ap (λ (t : Tally). tally_with c.args.message.now (brief_verdict (Err c.args.fault)) t) c.say.ensures.counted in
-    added_so before after c.args.self.now.counter c.keep.new.self.counter c.keep.result
-    (says_told _ _ c.args.message.now _ _ before between after says noted same puts, counted) c.keep.ensures.so
+    record {
+      told = added_so before after c.args.self.now.counter c.keep.new.self.counter c.keep.result
+          (adds_told c.args.checker.now _ c.args.message.now _ before after c.args.self.now.counter c.keep.new.self.counter c.requires.verdict (says_told _ _ c.args.message.now _ _ before between after says noted same puts) counted)
+          c.keep.ensures.so;
+    }

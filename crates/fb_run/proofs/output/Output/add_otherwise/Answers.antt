@@ -1,15 +1,8 @@
-use Rattle.std.proofs.Common.{List, Ok, ◌∙◌, ap, subst, sym, ℕ}
-use Rattle.fb_run.specs.{Ends.writer_of, Job.IsVerdict, Job.Verdict, Job.brief_verdict, Job.buffer_in, Job.verdict_of, Puts.behind, Puts.queue_of, Puts.queues_of, Sums.tally_with}
+use Rattle.std.proofs.Common.{◌∙◌, ap, subst, sym}
+use Rattle.fb_run.specs.{Ends.writer_of, Job.IsVerdict, Job.Verdict, Job.buffer_in, Job.verdict_of, Puts.behind, Puts.queue_of, Puts.queues_of, Sums.tally_with}
 use Rattle.fb_run.specs.declared.{tally.Tally.Tally, writing.Pending.Pending, writing.Written.Written}
-use Rattle.fb_run.proofs.ToldLemmas.{added_so, adds_told, says_told, yes_added}
+use Rattle.fb_run.proofs.ToldLemmas.{added_so, adds_told, says_told}
 use Rattle.fb_run.proofs.output.Output.add_otherwise.Goals as goal
-
-pub returns-in-Ok-clause-told : goal.returns-in-Ok-clause-told
-returns-in-Ok-clause-told g c =
-    let job = c.args.checker.now in
-    let verdict = subst (λ (l : List ℕ). IsVerdict job l (brief_verdict (Ok c.in-Ok.report))) c.metered.ensures.bytes c.in-Ok.ensures.verdict in
-    yes_added job _ c.args.message.now (brief_verdict (Ok c.in-Ok.report)) _ _ _ _ c.mode.result c.add_yes.result c.mode.ensures (c.course.ensures.strict c.in-BriefStrictly.is) verdict
-    (c.add_yes.ensures.told job.rejects) c.add_yes.ensures.counted c.add_yes.ensures.so
 
 pub returns-clause-told : goal.returns-clause-told
 returns-clause-told g c =
@@ -20,7 +13,7 @@ returns-clause-told g c =
     let before = queues_of g.K.Sink g.N.Sink g.R.Sink c.args.self.now c.args.writer.now c.args.notes.now c.args.rejects.now in
     let between = queues_of g.K.Sink g.N.Sink g.R.Sink c.say.new.self c.say.new.writer c.args.notes.now c.args.rejects.now in
     let after = queues_of g.K.Sink g.N.Sink g.R.Sink c.keep.new.self c.keep.new.writer c.keep.new.notes c.keep.new.rejects in
-    let says = rw (c.spot-spot.ensures, c.begin.ensures.value) at c.in_ok-say.ensures.ok in
+    let says = rw (c.spot-spot.ensures, c.terms.ensures.value) at c.in_ok-say.ensures.ok in
     let noted = ap (λ (written : Written). behind c.say.new.self.notes.bytes.items written (writer_of g.N.Sink c.args.notes.now)) c.say.ensures.noted in
     let same = ap (λ (p : Pending g.row.A.Denot). queue_of g.R.Sink p c.args.rejects.now) c.say.ensures.rejects in
     let puts = rw c.rejects.ensures at c.keep.ensures.puts in

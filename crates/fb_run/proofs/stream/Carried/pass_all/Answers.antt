@@ -1,6 +1,7 @@
-use Rattle.std.proofs.Common.{Result, arith, length, refl, rules, subst, sym, ◌≡◌, ◌∙◌}
+use Rattle.std.proofs.Common.{Result, ap, arith, length, refl, rules, subst, sym, ◌≡◌, ◌∙◌}
 use Rattle.fb_bytes.specs.declared.stream_fault.StreamFault.TheVariants as stream
 use Rattle.fb_run.specs.{Ends.all_outs, Leave.all_ends, Leave.reader_of, Pieces.AreEmpty, Pieces.PassesFront, Pieces.WritesBy, Pieces.carry_of, Puts.queues_of, declared.fault.RunFault.RunFault, declared.tally.Tally.Tally}
+use Rattle.fb_run.specs.declared.options.Terms.{Terms}
 use Rattle.fb_run.proofs.BareLemmas.{unused_queues}
 use Rattle.fb_run.proofs.RunLemmas.{err_is, fails_piece, fails_part, fails_read, fails_short, fails_turns, full_piece, passes_end, sofar_nothing, sofar_piece, sofar_prompt}
 use Rattle.fb_run.proofs.StreamLemmas.{cut_short, due_next, flushed, passed_sound}
@@ -8,12 +9,13 @@ use Rattle.fb_run.proofs.stream.Carried.pass_all.Goals as goal
 
 pub loop-left-init : goal.loop-left-init
 loop-left-init g c =
+    let begin : c.terms.result.now.skip ≡ c.args.checker.now.terms.skip = ap (λ (t : Terms). t.skip) c.terms.ensures.value in
     let unused = unused_queues g.K.Sink g.N.Sink g.R.Sink c.args.self.now.output c.args.writer.now c.args.notes.now c.args.rejects.now c.requires.first.0 in
     record {
       room = c.requires.room;
       sofar = sofar_nothing c.args.checker.now (reader_of g.S.Input c.args.reader.now) (all_outs g.K.Sink g.N.Sink g.R.Sink c.args.writer.now c.args.notes.now c.args.rejects.now)
           (carry_of g.K.Sink g.N.Sink g.R.Sink c.args.self.now c.args.writer.now c.args.notes.now c.args.rejects.now) _ c.args.turns
-          (record { all = c.new-skip.ensures.all ∙ c.begin.ensures.value; left = omega (arith, c.new-skip.ensures.left, c.begin.ensures.value) }) c.begin.ensures.due
+          (record { all = c.new-skip.ensures.all ∙ begin; left = omega (arith, c.new-skip.ensures.left, begin) }) c.terms.ensures.due
           c.requires.ready unused c.requires.first.1 c.requires.first.2;
     }
 

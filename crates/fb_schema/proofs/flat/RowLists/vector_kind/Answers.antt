@@ -1,7 +1,6 @@
 use Rattle.std.proofs.Common.{◌≡◌, Some, option_map, FitsSigned, w32, sym, ap, ◌∙◌, rules}
 use Rattle.std.proofs.lemmas.Int.{to_z-of_z}
-use Rattle.fb_schema.specs.declared.kinds.Shape.TheVariants.{One}
-use Rattle.fb_schema.specs.{FlatRows.borrowed_rows, Vectors.vector_of, Kinds.shape_kind}
+use Rattle.fb_schema.specs.{declared.kinds.Shape.TheVariants.One, FlatRows.borrowed_rows, Vectors.vector_of, Kinds.shape_kind}
 use Rattle.fb_schema.proofs.KindLemmas.{vector_kind}
 use Rattle.fb_schema.proofs.flat.RowLists.vector_kind.Goals as goal
 

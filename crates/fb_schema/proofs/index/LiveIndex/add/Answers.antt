@@ -1,10 +1,9 @@
 use Rattle.std.proofs.Common.{◌<◌, ◌+◌, ◌∷◌, ◌++◌, slice_index_or, ◌≡◌, slice_get, [], filter, if◌then◌else◌, Some, map, take, length, sym, ap, subst, ◌∙◌}
 use Rattle.std.proofs.lemmas.List.{length-map}
-use Rattle.fb_schema.specs.{Index.IsLiveIndex}
-use Rattle.fb_schema.specs.{FlatRows.borrowed_rows, FlatRows.object_in, Rows.Object}
-use Rattle.fb_schema.specs.Live.{live_of_view, by_slot, is_live, AreKinded, AreSpaced}
-use Rattle.fb_schema.proofs.{Blank.blank_object, Kinded.rows_kinded, Kinded.live_long, TypedLemmas.rows_spaced}
-use Rattle.fb_schema.proofs.IndexLemmas.{on_ok, take_more, kept_read, mapped_read}
+use Rattle.fb_schema.specs.{Index.IsLiveIndex, FlatRows.borrowed_rows, FlatRows.object_in, Rows.Object, Live.live_of_view, Live.by_slot, Live.is_live, Live.AreKinded}
+use Rattle.fb_schema.specs.Live.{AreSpaced}
+use Rattle.fb_schema.proofs.{Blank.blank_object, Kinded.rows_kinded, Kinded.live_long, TypedLemmas.rows_spaced, IndexLemmas.on_ok, IndexLemmas.take_more, IndexLemmas.kept_read}
+use Rattle.fb_schema.proofs.IndexLemmas.{mapped_read}
 use Rattle.fb_schema.proofs.index.LiveIndex.add.Goals as goal
 use Rattle.fb_schema.proofs.{index.LiveIndex.add.Goals.Start, LegalLemmas.legal_slots}
 
@@ -32,9 +31,6 @@ table_views-requires-clause-kinds g c = λ table.
     let rows = borrowed_rows c.args.rows.now in
     subst (λ b. AreKinded rows (if b then [] else by_slot (filter is_live (object_read g d).fields))) table
     (rows_kinded rows c.requires.legal c.args.n (object_read g d) (object_there g d))
-
-pub push-requires : goal.push-requires
-push-requires g c = rw c.deref.ensures.value c.in_ok-fields.ensures.few
 
 pub returns : goal.returns
 returns g c =

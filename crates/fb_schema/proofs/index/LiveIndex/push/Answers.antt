@@ -1,7 +1,8 @@
 use Rattle.std.proofs.Common.{Some, map, length, max, refl, ap, subst, sym, ◌∙◌, arith}
+use Rattle.std.proofs.lemmas.Simd.{map-map}
 use Rattle.fb_schema.specs.{Index.view_name, Index.AreNextRequired, FlatLists.lists_of, Sorting.IsOrderOf, Sorting.name_cmp}
 use Rattle.fb_schema.specs.{Steps.step_of, Steps.are_plain, Live.live_in, Live.live_of_view, Live.widest_of}
-use Rattle.fb_schema.proofs.IndexLemmas.{on_ok, with_made, matched_pushed, lists_more, value_more, widest_end, mapped_twice}
+use Rattle.fb_schema.proofs.IndexLemmas.{on_ok, with_made, matched_pushed, lists_more, value_more, widest_end}
 use Rattle.fb_schema.proofs.index.LiveIndex.push.Goals as goal
 
 pub returns : goal.returns
@@ -12,7 +13,7 @@ returns g c = λ rows all o before live long.
       names = with_made c.in_order.result _ _ _ c.in_ok-push_made.ensures c.in_order.ensures
           (λ order more is. matched_pushed (λ fields order. IsOrderOf name_cmp (map view_name fields) order) (lists_of c.args.self.now.fields) _ (lists_of c.args.self.now.names) _ fields order.items before.names pushed more is);
       steps = with_made c.field_steps.result _ _ _ c.in_ok-push_made-2.ensures c.field_steps.ensures
-          (λ steps more is. value_more (λ o. map step_of (live_in rows (Some o))) all o (lists_of c.args.self.now.steps) _ steps.items before.steps more (is ∙ mapped_twice step_of live_of_view fields ∙ ap (map step_of) live));
+          (λ steps more is. value_more (λ o. map step_of (live_in rows (Some o))) all o (lists_of c.args.self.now.steps) _ steps.items before.steps more (is ∙ sym (map-map step_of live_of_view fields) ∙ ap (map step_of) live));
       plain = value_more (λ o. are_plain (live_in rows (Some o))) all o c.args.self.now.plain.items _ c.are_plain.result before.plain c.in_ok-push.ensures.items (c.are_plain.ensures ∙ ap are_plain live);
       next_required = with_made c.next_required.result _ _ _ c.in_ok-push_made-3.ensures c.next_required.ensures
           (λ places more is. matched_pushed (λ o places. AreNextRequired (live_in rows (Some o)) places) all _ (lists_of c.args.self.now.next_required) _ o places.items before.next_required refl more (subst (λ ls. AreNextRequired ls places.items) live is));

@@ -1,10 +1,9 @@
 use Rattle.std.proofs.Common.{◌≡◌, ◌∷◌, [], ◌++◌, ℕ, slice_index_or, slice_get, Some, None, map, refl, subst, ◌∙◌, ap}
-use Rattle.fb_schema.specs.{Flat.part, FlatLists.lists_of, Index.kept_members, FlatRows.borrowed_rows, Rows.member_of_row}
-use Rattle.fb_schema.specs.{Targets.AreTargets, Demands.first_code, Demands.members_asked}
+use Rattle.fb_schema.specs.{Flat.part, FlatLists.lists_of, Index.kept_members, FlatRows.borrowed_rows, Rows.member_of_row, Targets.AreTargets, Demands.first_code}
+use Rattle.fb_schema.specs.{Demands.members_asked, Sorting.IsOrderOf, Sorting.member_cmp, Sorting.member_key}
 use Rattle.std.proofs.lemmas.Option.{slice_get-get_or}
-use Rattle.fb_schema.specs.Sorting.{IsOrderOf, member_cmp, member_key}
-use Rattle.fb_schema.proofs.{Blank.blank_enum, Numbers.get_or_default, TargetLemmas.have_step, UnionLemmas.members_clear}
-use Rattle.fb_schema.proofs.IndexLemmas.{on_ok, with_made, matched_step}
+use Rattle.fb_schema.proofs.{Blank.blank_enum, Numbers.get_or_default, TargetLemmas.have_step, UnionLemmas.members_clear, IndexLemmas.on_ok, IndexLemmas.with_made}
+use Rattle.fb_schema.proofs.IndexLemmas.{matched_step}
 use Rattle.fb_schema.proofs.index.MemberIndex.add.Goals as goal
 
 pub returns : goal.returns

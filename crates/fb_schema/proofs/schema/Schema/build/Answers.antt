@@ -1,6 +1,5 @@
 use Rattle.std.proofs.Common.{map, subst, ◌∙◌}
-use Rattle.fb_schema.specs.{Demands.IsLegal, FlatRows.flat_rows, Index.IsLiveIndex, Index.IsMemberIndex, Rows.Rows}
-use Rattle.fb_schema.specs.Sorting.{IsOrderOf, name_cmp, object_name}
+use Rattle.fb_schema.specs.{Demands.IsLegal, FlatRows.flat_rows, Index.IsLiveIndex, Index.IsMemberIndex, Rows.Rows, Sorting.IsOrderOf, Sorting.name_cmp, Sorting.object_name}
 use Rattle.fb_schema.proofs.LookLemmas.{lent_same}
 use Rattle.fb_schema.proofs.schema.Schema.build.Goals as goal
 
@@ -24,6 +23,3 @@ invariant_of-result g c =
 
 pub returns-clause-legal : goal.returns-clause-legal
 returns-clause-legal g c = let is = c.lists.ensures in subst IsLegal (lent_same c.in_ok-rows.rows c.lists.result is.objects is.fields is.enums is.members ∙ c.in_ok-rows.ensures.value) c.in_ok-index.ensures.made.legal
-
-pub returns-clause-rows : goal.returns-clause-rows
-returns-clause-rows g c = c.in_ok-rows.ensures.value

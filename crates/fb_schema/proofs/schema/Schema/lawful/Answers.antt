@@ -1,10 +1,7 @@
 use Rattle.std.proofs.Common.{subst, arith}
-use Rattle.fb_schema.specs.{Demands.IsLegal, Live.widest, FlatRows.flat_rows, Served.IsServed, Served.HaveKinds}
+use Rattle.fb_schema.specs.{Live.widest, FlatRows.flat_rows, Served.IsServed, Served.HaveKinds}
 use Rattle.fb_schema.proofs.{Kinded.have_kinds, TypedLemmas.served_by}
 use Rattle.fb_schema.proofs.schema.Schema.lawful.Goals as goal
-
-pub returns-clause-legal : goal.returns-clause-legal
-returns-clause-legal g c = subst IsLegal c.self.view_is c.self.invariant.legal
 
 pub returns-clause-served : goal.returns-clause-served
 unfolding widest

@@ -1,8 +1,6 @@
 use Rattle.std.proofs.Common.{◌≡◌, ◌<◌, pos, List, Some, find, map, slice_get, IsTrue, true, refl, sym, ap, subst, ◌∙◌, arith, option_map, int_eq}
-use Rattle.std.proofs.lemmas.Option.{slice_get_within}
-use Rattle.fb_schema.specs.declared.{flat.EnumPart.EnumPart, rows.MemberRow.MemberRow}
-use Rattle.fb_schema.specs.{Members.member_name, FlatRows.flat_rows}
-use Rattle.fb_schema.specs.Rows.{Rows, Member, is_union, member_of_row}
+use Rattle.fb_schema.specs.{declared.flat.EnumPart.EnumPart, declared.rows.MemberRow.MemberRow, Members.member_name, FlatRows.flat_rows, Rows.Rows, Rows.Member, Rows.is_union}
+use Rattle.fb_schema.specs.Rows.{member_of_row}
 use Rattle.fb_schema.proofs.{NamedValues.member_name_is, NamedValues.no_name_of_zero, NamedValues.no_name_of_other, UnionLemmas.union_at}
 use Rattle.fb_schema.proofs.schema.Schema.member_name.Goals as goal
 use Rattle.fb_schema.proofs.schema.Schema.member_name.Goals.{After-self, then-value-eq0-via-then-value-eq0, then-value-eq0-via-else-value-eq0+then-not-is_union}
@@ -16,9 +14,6 @@ returns-then-value-eq0 g c = elim c.then-value-eq0.branch [
 -- the union's row
 union_row : (g : _) (c : After-self g) → (row : EnumPart) × (slice_get c.self.inside.rows.enums.items c.args.e ≡ Some row) × (row.is_union ≡ true)
 union_row g c = union_at c.self.inside.rows.members.items c.self.inside.rows.enums.items c.args.e (subst (λ (r : Rows). IsTrue (is_union r c.args.e)) (sym c.self.view_is) (sym c.is_union.ensures ∙ c.if-not-is_union.false))
-
-pub members_at-requires-clause-here : goal.members_at-requires-clause-here
-members_at-requires-clause-here g c = slice_get_within c.self.inside.rows.enums.items c.args.e (union_row g c).0 (union_row g c).1
 
 pub returns : goal.returns
 returns g c =

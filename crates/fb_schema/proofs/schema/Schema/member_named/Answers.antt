@@ -1,12 +1,10 @@
 use Rattle.std.proofs.Common.{◌≡◌, ◌<◌, ℕ, Option, Some, None, List, map, length, slice_get, get_or, find, filter, IsTrue, true, false, unsigned_abs, refl, sym, ap, subst, ◌∙◌, arith, to_z, of_z, w64, option_map, bytes_eq, Equal}
 use Rattle.std.proofs.lemmas.{Int.to_z-of_z, List.length-map, List.get_or-map}
-use Rattle.fb_schema.specs.declared.{flat.EnumPart.EnumPart, rows.MemberRow.MemberRow}
-use Rattle.fb_schema.specs.{Demands.first_code, Demands.members_asked, Flat.part, Index.kept_members, Members.member_named, Members.is_member_value}
-use Rattle.fb_schema.specs.FlatRows.{flat_rows, enum_in}
-use Rattle.fb_schema.specs.Sorting.{IsOrderOf, IsPlaceOf, member_cmp, member_key}
-use Rattle.fb_schema.specs.Rows.{Rows, Member, is_union, member_of_row}
-use Rattle.fb_schema.proofs.{Blank.blank_member, UnionLemmas.union_at, LookLemmas.union_within, UnionLemmas.members_clear}
-use Rattle.fb_schema.proofs.MemberNames.{member_named_is, real_at, small_value, fits_small, name_place}
+use Rattle.fb_schema.specs.{declared.flat.EnumPart.EnumPart, declared.rows.MemberRow.MemberRow, Demands.first_code, Demands.members_asked, Flat.part, Index.kept_members}
+use Rattle.fb_schema.specs.{Members.member_named, Members.is_member_value, FlatRows.flat_rows, FlatRows.enum_in, Sorting.IsOrderOf, Sorting.IsPlaceOf, Sorting.member_cmp}
+use Rattle.fb_schema.specs.{Sorting.member_key, Rows.Rows, Rows.Member, Rows.is_union, Rows.member_of_row}
+use Rattle.fb_schema.proofs.{Blank.blank_member, UnionLemmas.union_at, LookLemmas.union_within, UnionLemmas.members_clear, MemberNames.member_named_is, MemberNames.real_at}
+use Rattle.fb_schema.proofs.MemberNames.{small_value, fits_small, name_place}
 use Rattle.fb_schema.proofs.schema.Schema.member_named.Goals as goal
 use Rattle.fb_schema.proofs.{schema.Schema.member_named.Goals.After-place_of, WalkLemmas.mapped_at}
 use Rattle.std.proofs.lemmas.Option.{slice_get-get_or}
@@ -92,6 +90,3 @@ pub members_at-requires-clause-here : goal.members_at-requires-clause-here
 members_at-requires-clause-here g c =
     let s = c.self.inside in
     union_within (enum_in s.rows.members.items) s.rows.enums.items (flat_rows s.rows) c.args.self.now c.args.e refl c.self.view_is c.requires
-
-pub members_at-requires-clause-parts : goal.members_at-requires-clause-parts
-members_at-requires-clause-parts g c = c.self.invariant.parts.members

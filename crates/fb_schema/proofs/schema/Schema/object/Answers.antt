@@ -1,4 +1,4 @@
-use Rattle.std.proofs.Common.{◌<◌, length, option_map, slice_get, Some, FitsSigned, w32, sym, ap, subst, ◌∙◌, arith, rules}
+use Rattle.std.proofs.Common.{◌<◌, length, option_map, slice_get, Some, FitsSigned, w32, sym, ap, subst, ◌∙◌, rules}
 use Rattle.std.proofs.lemmas.{List.length-map, Option.slice_get-get_or, Int.to_z-of_z}
 use Rattle.fb_schema.specs.{FlatRows.object_in, Heads.head_of}
 use Rattle.fb_schema.proofs.WalkLemmas.{mapped_at}
@@ -9,9 +9,6 @@ within : (g : _) (c : After-self g) → c.args.n < length c.self.inside.rows.obj
 within g c =
     let s = c.self.inside in
     rw (sym (length-map s.rows.objects.items (object_in s.rows.fields.items))) (subst (λ r. c.args.n < length r.objects) (sym c.self.view_is) c.requires)
-
-pub index-object-requires : goal.index-object-requires
-index-object-requires g c = let lt = within g (goal.at.index-object-requires g c).After-self in omega (arith, lt, c.self.inside.rows.objects.ok.0)
 
 pub returns : goal.returns
 returns g c =

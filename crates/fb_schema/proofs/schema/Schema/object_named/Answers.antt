@@ -1,7 +1,6 @@
 use Rattle.std.proofs.Common.{map, ap, ◌∙◌, position, refl, bytes_eq}
 use Rattle.fb_schema.specs.{Sorting.name_cmp, Sorting.object_name, FlatRows.flat_rows, FlatRows.object_in, Rows.Object, Rows.Rows}
-use Rattle.fb_schema.proofs.{PlaceLemmas.place_position, LegalLemmas.legal_clear, OwnerLemmas.no_object_again}
-use Rattle.fb_schema.proofs.WalkLemmas.{names_agree, names_total}
+use Rattle.fb_schema.proofs.{PlaceLemmas.place_position, LegalLemmas.legal_clear, OwnerLemmas.no_object_again, WalkLemmas.names_agree, WalkLemmas.names_total}
 use Rattle.fb_schema.proofs.schema.Schema.object_named.Goals as goal
 
 pub returns : goal.returns

@@ -1,6 +1,5 @@
 use Rattle.std.proofs.Common.{◌≡◌, ℕ, List, map, true, false, position, bytes_eq, sym, ap, ◌∙◌, arith}
-use Rattle.fb_schema.specs.declared.rows.FieldRow.{FieldRow}
-use Rattle.fb_schema.specs.{Parts.part_named, Parts.parts_of, Rows.Field, Rows.Rows, Rows.field_of}
+use Rattle.fb_schema.specs.{declared.rows.FieldRow.FieldRow, Parts.part_named, Parts.parts_of, Rows.Field, Rows.Rows, Rows.field_of}
 use Rattle.fb_schema.proofs.PositionLemmas.{first_position, no_position, below_same, position_mapped}
 use Rattle.fb_schema.proofs.schema.Schema.part_named.Goals as goal
 

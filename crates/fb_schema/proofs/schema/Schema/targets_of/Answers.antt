@@ -1,7 +1,6 @@
 use Rattle.std.proofs.Common.{IsTrue, refl, sym, ap, subst, ◌∙◌, [], arith}
 use Rattle.fb_schema.specs.{Members.member_of, FlatRows.flat_rows, FlatRows.enum_in, Rows.Rows, Rows.is_union, Targets.target_of}
-use Rattle.fb_schema.proofs.UnionLemmas.{union_at, member_of_row_is}
-use Rattle.fb_schema.proofs.LookLemmas.{union_within}
+use Rattle.fb_schema.proofs.{UnionLemmas.union_at, UnionLemmas.member_of_row_is, LookLemmas.union_within}
 use Rattle.fb_schema.proofs.schema.Schema.targets_of.Goals as goal
 use Rattle.std.proofs.lemmas.Option.{get_or_from_slice_get}
 use Rattle.fb_schema.specs.{Targets.target_at, FlatLists.lists_of}

@@ -1,6 +1,5 @@
 use Rattle.std.proofs.Common.{sym, ap, ◌∙◌, map, List}
-use Rattle.fb_strict.specs.declared.holding.Holding.{Holding}
-use Rattle.fb_strict.specs.Holding.{field_of, held_in}
+use Rattle.fb_strict.specs.{declared.holding.Holding.Holding, Holding.field_of, Holding.held_in}
 use Rattle.fb_strict.proofs.HeldOrder.{held_first, held_nowhere}
 use Rattle.fb_strict.proofs.holding.Holdings.held_at.Goals as goal
 

@@ -1,7 +1,6 @@
 use Rattle.std.proofs.Common.{sym, subst, refl, arith, ◌≡◌, ◌+◌, ◌∙◌, length}
 use Rattle.std.proofs.Math.ListN.{set}
-use Rattle.fb_strict.specs.declared.leads.Edge.{Edge}
-use Rattle.fb_strict.specs.Leading.{Added, last_to}
+use Rattle.fb_strict.specs.{declared.leads.Edge.Edge, Leading.Added, Leading.last_to}
 use Rattle.fb_strict.proofs.Leading.{last_at, grown_chained, added_grown, added}
 use Rattle.fb_strict.proofs.leads.Chains.add.Goals as goal
 

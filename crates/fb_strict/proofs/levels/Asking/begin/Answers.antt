@@ -1,9 +1,7 @@
 use Rattle.std.proofs.Common.{◌+◌, ◌-◌, refl, ap, ◌∙◌, subst, length, length-drop, arith}
 use Rattle.fb_bytes.specs.Word.{Lent}
 use Rattle.fb_rules.specs.Tree.{Tree}
-use Rattle.fb_strict.specs.Asked.{demands_of}
-use Rattle.fb_strict.specs.Passing.{wants_of, IsRooted}
-use Rattle.fb_strict.specs.Levels.{RootBegun}
+use Rattle.fb_strict.specs.{Asked.demands_of, Passing.wants_of, Passing.IsRooted, Levels.RootBegun}
 use Rattle.fb_strict.proofs.Legs.{rooted_within, some_room, level_begins, level_halts}
 use Rattle.fb_strict.proofs.levels.Asking.begin.Goals as goal
 

@@ -1,6 +1,5 @@
 use Rattle.std.proofs.Common.{◌≡◌, ℕ, suc, ◌+◌, ◌<◌, List, set, get_or, length, sym, ap, ◌∙◌, arith, length-set, get_or-set_same, get_or-set_other}
-use Rattle.fb_strict.specs.declared.levels.Level.{Level}
-use Rattle.fb_strict.specs.Levels.{no_level}
+use Rattle.fb_strict.specs.{declared.levels.Level.Level, Levels.no_level}
 use Rattle.fb_strict.proofs.Turning.{inside_opens, inside_falls, inside_ends}
 use Rattle.fb_strict.proofs.levels.Asking.go_in.Goals as goal
 

@@ -1,7 +1,6 @@
 use Rattle.std.proofs.Common.{◌+◌, refl, ap, sym, ◌∙◌, subst}
 use Rattle.fb_bytes.specs.Word.{Lent}
-use Rattle.fb_strict.specs.Passing.{IsStanding}
-use Rattle.fb_strict.specs.Levels.{passing_of}
+use Rattle.fb_strict.specs.{Passing.IsStanding, Levels.passing_of}
 use Rattle.fb_strict.proofs.Legs.{leg_stands, leg_goes, leg_halts}
 use Rattle.fb_strict.proofs.levels.Asking.leg.Goals as goal
 

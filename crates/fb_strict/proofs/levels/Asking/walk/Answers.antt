@@ -1,7 +1,6 @@
 use Rattle.std.proofs.Common.{ℕ, List, ◌<◌, ◌^◌, ap, ◌∙◌, arith, length, refl, subst, sym}
 use Rattle.fb_schema.specs.Live.{widest}
-use Rattle.fb_rules.specs.Bounds.{Bounds}
-use Rattle.fb_rules.specs.declared.{fault.Report.Report, start.Start.TheVariants.Bare, start.Ident.TheVariants.Any}
+use Rattle.fb_rules.specs.{Bounds.Bounds, declared.fault.Report.Report, declared.start.Start.TheVariants.Bare, declared.start.Ident.TheVariants.Any}
 use Rattle.fb_strict.specs.Levels.{Whole}
 use Rattle.fb_strict.proofs.Walking.{report_few, most_few, report_deep, short_bytes, enough_inside, walk_stops}
 use Rattle.fb_strict.proofs.levels.Asking.walk.Goals as goal

@@ -1,5 +1,4 @@
-use Rattle.fb_strict.specs.Demanded.{demanded}
-use Rattle.fb_strict.specs.Marking.{OwnMarked}
+use Rattle.fb_strict.specs.{Demanded.demanded, Marking.OwnMarked}
 use Rattle.fb_strict.proofs.marking.Marking.mark_own.Given as goal
 
 abbrev pub invariant-loop-object : goal.invariant-loop-object

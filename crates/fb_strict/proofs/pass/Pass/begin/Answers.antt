@@ -2,8 +2,7 @@ use Rattle.std.proofs.Common.{[], sym, ap, subst, length}
 use Rattle.fb_bytes.specs.Word.{Lent}
 use Rattle.fb_rules.specs.Facts.{IsTable}
 use Rattle.fb_strict.specs.Passing.{IsPassing}
-use Rattle.fb_strict.proofs.Frames.{next_table}
-use Rattle.fb_strict.proofs.Looping.{some_frame, root_stops, begins_on, first_stands}
+use Rattle.fb_strict.proofs.{Frames.next_table, Looping.some_frame, Looping.root_stops, Looping.begins_on, Looping.first_stands}
 use Rattle.fb_strict.proofs.pass.Pass.begin.Goals as goal
 
 -- src/pass.rt

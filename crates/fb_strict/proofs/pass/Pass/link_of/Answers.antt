@@ -1,10 +1,8 @@
 use Rattle.std.proofs.Common.{◌≡◌, ◌-◌, ℕ, Some, sym, ap, subst, ◌∙◌, arith}
 use Rattle.std.specs.Prelude.{slice_get, slice_index_or}
 use Rattle.fb_rules.specs.Places.{field_place}
-use Rattle.fb_strict.specs.declared.tasks.Task.{Task}
-use Rattle.fb_strict.specs.{Passing.Passing, Passing.ask_words, Reread.WordsStand, Reread.MemberStands}
-use Rattle.fb_strict.proofs.Tasking.{tasks_are}
-use Rattle.fb_strict.proofs.Rereading.{more_words, words_stand, member_stands, link_read, at_index}
+use Rattle.fb_strict.specs.{declared.tasks.Task.Task, Passing.Passing, Passing.ask_words, Reread.WordsStand, Reread.MemberStands}
+use Rattle.fb_strict.proofs.{Tasking.tasks_are, Rereading.more_words, Rereading.words_stand, Rereading.member_stands, Rereading.link_read, Rereading.at_index}
 use Rattle.fb_strict.proofs.pass.Pass.link_of.Goals as goal
 use Rattle.fb_strict.proofs.pass.Pass.link_of.Goals.{In-Some}
 

@@ -1,7 +1,6 @@
 use Rattle.std.proofs.Common.{None, refl, sym, ap, ◌∙◌}
 use Rattle.fb_bytes.specs.Word.{Lent}
-use Rattle.fb_strict.proofs.Plainly.{each_passed}
-use Rattle.fb_strict.proofs.Answered.{only_read, stands, stands_not, tested_after, none_tested, always}
+use Rattle.fb_strict.proofs.{Plainly.each_passed, Answered.only_read, Answered.stands, Answered.stands_not, Answered.tested_after, Answered.none_tested, Answered.always}
 use Rattle.fb_strict.proofs.pass.Pass.pass_each.Goals as goal
 
 -- src/pass.rt

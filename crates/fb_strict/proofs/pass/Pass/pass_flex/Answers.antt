@@ -1,6 +1,5 @@
 use Rattle.std.proofs.Common.{◌≡◌, ◌+◌, ap, ◌∙◌, arith}
-use Rattle.fb_rules.specs.{Cost.slot_reads, Places.field_place}
-use Rattle.fb_rules.specs.Order.{after}
+use Rattle.fb_rules.specs.{Cost.slot_reads, Places.field_place, Order.after}
 use Rattle.fb_strict.specs.InOrder.{flex_failure}
 use Rattle.fb_strict.proofs.Answered.{tested_after, flex_tested, bytes_row, always}
 use Rattle.fb_strict.proofs.pass.Pass.pass_flex.Goals as goal

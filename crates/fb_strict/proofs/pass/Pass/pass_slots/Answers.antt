@@ -2,10 +2,9 @@ use Rattle.std.proofs.Common.{None, ◌≡◌, ◌+◌, ◌-◌, ◌*◌, ◌/�
 use Rattle.std.specs.Prelude.{slice_get, ◌==◌, ◌||◌}
 use Rattle.fb_bytes.specs.Word.{Lent, word}
 use Rattle.fb_schema.specs.{Live.live_of_view, Live.live_fields, Rows.Rows}
-use Rattle.fb_rules.specs.declared.fault.Reason.TheVariants.{UnknownField}
-use Rattle.fb_rules.specs.{Order.check, Places.vtable, Told.stopped, Told.IsAskedAt}
-use Rattle.fb_strict.specs.declared.demands.Demands.{Demands}
-use Rattle.fb_strict.specs.{Planned.Planned, Passing.Passing, Passing.IsRoom, Passing.Breaks, Passing.GoesOn, InOrder.slot_failure, Leaves.is_next_slot}
+use Rattle.fb_rules.specs.{declared.fault.Reason.TheVariants.UnknownField, Order.check, Places.vtable, Told.stopped, Told.IsAskedAt}
+use Rattle.fb_strict.specs.{declared.demands.Demands.Demands, Planned.Planned, Passing.Passing, Passing.IsRoom, Passing.Breaks, Passing.GoesOn, InOrder.slot_failure}
+use Rattle.fb_strict.specs.Leaves.{is_next_slot}
 use Rattle.fb_strict.proofs.KnownSlots.{none_walked, live_is, slot_stops, walked_on, walked_by, all_walked, next_within, not_off, off_by, none_asked, slots_are}
 use Rattle.fb_strict.proofs.pass.Pass.pass_slots.Goals as goal
 use Rattle.fb_strict.proofs.pass.Pass.pass_slots.Goals.{After-pass_slot, then-live, else-live}

@@ -1,8 +1,5 @@
 use Rattle.std.proofs.Common.{ap, ◌∙◌}
-use Rattle.fb_strict.specs.declared.demands.Demands.{Demands}
-use Rattle.fb_strict.specs.Planned.{Planned}
-use Rattle.fb_strict.specs.Passing.{Passing, wants_of}
-use Rattle.fb_strict.specs.Asked.{asked_referent}
+use Rattle.fb_strict.specs.{declared.demands.Demands.Demands, Planned.Planned, Passing.Passing, Passing.wants_of, Asked.asked_referent}
 use Rattle.fb_strict.proofs.Answered.{ok_for, failed_none}
 use Rattle.fb_strict.proofs.pass.Pass.pass_typed.Goals as goal
 

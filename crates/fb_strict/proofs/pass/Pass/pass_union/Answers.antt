@@ -1,15 +1,12 @@
 use Rattle.std.proofs.Common.{◌≡◌, ◌⊎◌, inl, inr, ℕ, List, Option, Some, None, refl, sym, ap, subst, ◌∙◌}
 use Rattle.std.specs.Prelude.{IsSome}
 use Rattle.fb_bytes.specs.Word.{Lent}
-use Rattle.fb_schema.specs.declared.kinds.Kind.{Kind}
-use Rattle.fb_rules.specs.declared.{offset_row.Row.Row, offset_row.Referent.Referent, offset_row.Referent.TheVariants.Nothing}
-use Rattle.fb_schema.specs.{Rows.Rows, Targets.kind_to}
-use Rattle.fb_rules.specs.{Plain.place_from, Plain.IsTested, Places.field_place, Fields.type_place}
-use Rattle.fb_strict.specs.declared.tasks.Ask.TheVariants.{Union as AskUnion}
-use Rattle.fb_strict.specs.declared.demands.Demands.{Demands}
-use Rattle.fb_strict.specs.Planned.{Planned}
-use Rattle.fb_strict.specs.Skipped.{Wants}
-use Rattle.fb_strict.specs.{InOrder.where_asked, InOrder.member_at, InOrder.union_failure, InOrder.union_reads, Asked.asked_referent, Passing.Passing, Passing.wants_of, Passing.word_row, Passing.task_row}
+use Rattle.fb_schema.specs.{declared.kinds.Kind.Kind, Rows.Rows, Targets.kind_to}
+use Rattle.fb_rules.specs.{declared.offset_row.Row.Row, declared.offset_row.Referent.Referent, declared.offset_row.Referent.TheVariants.Nothing, Plain.place_from, Plain.IsTested}
+use Rattle.fb_rules.specs.{Places.field_place, Fields.type_place}
+use Rattle.fb_strict.specs.{declared.tasks.Ask.TheVariants.Union as AskUnion, declared.demands.Demands.Demands, Planned.Planned, Skipped.Wants, InOrder.where_asked}
+use Rattle.fb_strict.specs.{InOrder.member_at, InOrder.union_failure, InOrder.union_reads, Asked.asked_referent, Passing.Passing, Passing.wants_of, Passing.word_row}
+use Rattle.fb_strict.specs.Passing.{task_row}
 use Rattle.fb_strict.proofs.Answered.{tested_after, failed_none, nothing_after, place_is}
 use Rattle.fb_strict.proofs.pass.Pass.pass_union.Goals as goal
 

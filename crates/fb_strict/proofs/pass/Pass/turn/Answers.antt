@@ -1,9 +1,8 @@
 use Rattle.std.proofs.Common.{◌≡◌, ◌-◌, ℕ, List, length, get_or, refl, sym, ap, subst, arith}
 use Rattle.std.proofs.Math.ListN.{length-set}
 use Rattle.fb_bytes.specs.Word.{Lent}
-use Rattle.fb_strict.specs.Asked.{Demand}
+use Rattle.fb_strict.specs.{Asked.Demand, Passing.blank, Passing.frame_links, Passing.IsPassing, Passing.IsRoom, Passing.IsLeft, Passing.GoesDown, Passing.wants_of}
 use Rattle.fb_rules.specs.declared.link.Link.{Link}
-use Rattle.fb_strict.specs.Passing.{blank, frame_links, IsPassing, IsRoom, IsLeft, GoesDown, wants_of}
 use Rattle.fb_strict.proofs.Stacks.{top_of, stays_turned, up_turned, in_turned, stops_turned, has_frame, its_table, its_object, its_reads, its_paid, open_stops, down_turned}
 use Rattle.fb_strict.proofs.pass.Pass.turn.Goals as goal
 use Rattle.fb_strict.proofs.pass.Pass.turn.Goals.{After-open-arg-1}

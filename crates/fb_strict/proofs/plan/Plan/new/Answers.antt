@@ -1,8 +1,6 @@
 use Rattle.std.proofs.Common.{◌≡◌, Some, ap, ◌∙◌, subst, length, map}
 use Rattle.fb_bfbs.specs.Marks.{marked as mark_of}
-use Rattle.fb_strict.specs.declared.tasks.Held.TheVariants.{Buffer}
-use Rattle.fb_strict.specs.{Demanded.demanded, Holding.held_in}
-use Rattle.fb_strict.specs.Planned.{all_wants, AreMarks, AreTasks}
+use Rattle.fb_strict.specs.{declared.tasks.Held.TheVariants.Buffer, Demanded.demanded, Holding.held_in, Planned.all_wants, Planned.AreMarks, Planned.AreTasks}
 use Rattle.fb_strict.proofs.Holds.{if_hold}
 use Rattle.fb_strict.proofs.plan.Plan.new.Goals as goal
 

@@ -1,9 +1,7 @@
 use Rattle.std.proofs.Common.{◌≡◌, ℕ, List, ◌++◌, take, get_or, arith, length-append}
-use Rattle.std.proofs.Math.ListN.{get_or-append}
-use Rattle.std.proofs.lemmas.List.{take-append-le}
+use Rattle.std.proofs.{Math.ListN.get_or-append, lemmas.List.take-append-le}
 use Rattle.fb_bytes.specs.Word.{Lent}
-use Rattle.fb_verify.specs.declared.{scratch.Frame.Frame, stack.Walk.Walk}
-use Rattle.fb_verify.specs.{Stack.blank, Stack.Origin, Turns.IsUnderWayOver}
+use Rattle.fb_verify.specs.{Stack.blank, Stack.Origin, Turns.IsUnderWayOver, declared.scratch.Frame.Frame, declared.stack.Walk.Walk}
 use Rattle.fb_verify.proofs.stack.Walk.go_deeper.Goals as goal
 
 -- a walk goes on over the same frames and more behind them

@@ -2,10 +2,8 @@ use Rattle.std.proofs.Common.{◌≡◌, ℕ, ◌<◌, List, map, length, get_or
 use Rattle.std.proofs.lemmas.Option.{same_Some, slice_get-get_or, slice_get-map, slice_get_within}
 use Rattle.std.specs.Prelude.{slice_get}
 use Rattle.fb_bytes.specs.Word.{Lent}
-use Rattle.fb_schema.specs.declared.views.FieldView.{FieldView}
-use Rattle.fb_schema.specs.Live.{Live, live_fields, live_of_view}
-use Rattle.fb_verify.specs.declared.{scratch.Frame.Frame, stack.Walk.Walk}
-use Rattle.fb_verify.specs.{Stack.Waiting, Turns.IsAtFarField, Turns.IsAtOpenField, Turns.IsFar}
+use Rattle.fb_schema.specs.{Live.Live, Live.live_fields, Live.live_of_view, declared.views.FieldView.FieldView}
+use Rattle.fb_verify.specs.{Stack.Waiting, Turns.IsAtFarField, Turns.IsAtOpenField, Turns.IsFar, declared.scratch.Frame.Frame, declared.stack.Walk.Walk}
 use Rattle.fb_verify.proofs.{Frames.length_map, IntoField.far_turned}
 use Rattle.fb_verify.proofs.stack.Walk.go_far.Goals as goal
 
@@ -44,4 +42,4 @@ pass_row_by-requires g c =
     rw e.same (e.row, sym (c.are_published.ensures c.if-not-are_published.false))
 
 pub returns-in-Down : goal.returns-in-Down
-returns-in-Down g c = far_turned _ _ _ _ _ _ _ _ _ _ _ _ c.in-Down.ensures c.pass_row_by.result c.pass_row_by.ensures
+returns-in-Down g c = far_turned _ _ _ _ c.in-Down.ensures c.pass_row_by.result c.pass_row_by.ensures

@@ -5,4 +5,4 @@ pub pass_row-requires : goal.pass_row-requires
 pass_row-requires g c = rw c.in-Down.ensures.same c.in-Down.ensures.row
 
 pub returns-in-Down : goal.returns-in-Down
-returns-in-Down g c = far_turned _ _ _ _ _ _ _ _ _ _ _ _ c.in-Down.ensures c.pass_row.result c.pass_row.ensures
+returns-in-Down g c = far_turned _ _ _ _ c.in-Down.ensures c.pass_row.result c.pass_row.ensures

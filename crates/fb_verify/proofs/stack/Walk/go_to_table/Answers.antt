@@ -1,16 +1,12 @@
 use Rattle.std.proofs.Common.{◌≡◌, ◌∙◌, ◌+◌, ◌-◌, ◌/◌, ◌^◌, ◌≤◌, Some, None, IsTrue, refl, sym, ap, arith}
 use Rattle.fb_schema.specs.Rows.{is_table}
-use Rattle.fb_rules.specs.declared.offset_row.{Referent.TheVariants.Table as ATable, Row.Row}
-use Rattle.fb_verify.specs.declared.stack.Turn.TheVariants.{Slowly}
-use Rattle.fb_rules.specs.{Cost.present_reads, Order.after, Order.present_failure, Plain.tested_by, Plain.IsTested}
-use Rattle.fb_verify.specs.Stack.{blank}
-use Rattle.fb_verify.specs.Turns.{BeginsRow}
-use Rattle.fb_rules.proofs.Budgets.{fewer_reads}
-use Rattle.fb_verify.proofs.{RowTurns.stays, Turns.halts_in_field}
-use Rattle.fb_rules.proofs.Words.{word_left}
-use Rattle.fb_verify.proofs.IntoField.{into_askable, into_stops, row_begins, far_turned}
-use Rattle.fb_verify.proofs.stack.Walk.go_to_table.Goals as goal
+use Rattle.fb_rules.specs.{Cost.present_reads, Order.after, Order.present_failure, Plain.tested_by, Plain.IsTested, declared.offset_row.Referent.TheVariants.Table as ATable}
+use Rattle.fb_rules.specs.declared.offset_row.Row.{Row}
+use Rattle.fb_verify.specs.{Stack.blank, Turns.BeginsRow, declared.stack.Turn.TheVariants.Slowly}
+use Rattle.fb_rules.proofs.{Budgets.fewer_reads, Words.word_left}
+use Rattle.fb_verify.proofs.{RowTurns.stays, Turns.halts_in_field, IntoField.into_askable, IntoField.into_stops, IntoField.row_begins, IntoField.far_turned}
 use Rattle.fb_verify.proofs.stack.Walk.go_to_table.Goals.{After-one-row}
+use Rattle.fb_verify.proofs.stack.Walk.go_to_table.Goals as goal
 
 pub returns-in-Some : goal.returns-in-Some
 returns-in-Some g c =
@@ -52,7 +48,7 @@ returns-then-not-allows_table g c =
     let w = c.args.self.now in
     let m = c.args.reads.now in
     let b = begins g d in
-    far_turned w w w m m m g.under c.args.waiting c.args.top.now _ _ c.args.child.now b Slowly (stays w m g.under _ (b.row).walking (b.row).short)
+    far_turned _ _ _ c.args.child.now b Slowly (stays w m g.under _ (b.row).walking (b.row).short)
 
 pub take_word-requires : goal.take_word-requires
 take_word-requires g c =
@@ -64,7 +60,4 @@ take_word-requires g c =
     (record { in-row = (begins g d).row; leads = ap (λ (x : Row). x.leads) c.one-row.ensures; table = table g d }, (c.allows_table.ensures c.if-not-allows_table.false, (room, (short, c.requires.1))))
 
 pub returns : goal.returns
-returns g c =
-    let d = (goal.at.returns g c).After-one-row in
-    let new = c.take_word.new in
-    far_turned c.args.self.now c.args.self.now new.self c.args.reads.now c.args.reads.now new.reads g.under c.args.waiting c.args.top.now _ new.top new.child (begins g d) c.take_word.result c.take_word.ensures
+returns g c = far_turned _ _ _ _ (begins g (goal.at.returns g c).After-one-row) c.take_word.result c.take_word.ensures

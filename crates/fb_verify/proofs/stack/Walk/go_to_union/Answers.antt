@@ -1,19 +1,14 @@
 use Rattle.std.proofs.Common.{◌≡◌, ◌+◌, ◌<◌, nat_lt, None, refl, ap, arith}
 use Rattle.fb_bytes.specs.Word.{Lent}
 use Rattle.fb_schema.specs.Live.{live_of_view}
-use Rattle.fb_rules.specs.declared.{table.Child.Child, offset_row.Leads.Leads}
-use Rattle.fb_verify.specs.declared.{stack.Walk.Walk, scratch.Frame.Frame, stack.Turn.Turn}
-use Rattle.fb_rules.specs.declared.{offset_row.Leads.TheVariants.All, offset_row.Leads.TheVariants.ByType, offset_row.Referent.Referent}
-use Rattle.fb_rules.specs.declared.offset_row.Row.{Row}
-use Rattle.fb_verify.specs.declared.stack.Turn.TheVariants.{Up}
-use Rattle.fb_rules.specs.{Cost.present_reads, Fields.entries_of, OffsetRows.LeavesRow, OffsetRows.AreAll, Order.present_failure, Plain.IsTested}
-use Rattle.fb_verify.specs.{Stack.blank, Stack.Waiting, Turns.BeginsRow, Turns.MemberTurned, Turns.RowTurned}
-use Rattle.fb_rules.specs.declared.plain.Standing.TheVariants.{Known, Unknown}
+use Rattle.fb_rules.specs.{Cost.present_reads, Fields.entries_of, OffsetRows.LeavesRow, OffsetRows.AreAll, Order.present_failure, Plain.IsTested, declared.table.Child.Child}
+use Rattle.fb_rules.specs.declared.offset_row.{Leads.Leads, Leads.TheVariants.All, Leads.TheVariants.ByType, Referent.Referent, Row.Row}
+use Rattle.fb_verify.specs.{Stack.blank, Stack.Waiting, Turns.BeginsRow, Turns.MemberTurned, Turns.RowTurned, declared.stack.Walk.Walk, declared.stack.Turn.Turn}
+use Rattle.fb_verify.specs.declared.{stack.Turn.TheVariants.Up, scratch.Frame.Frame}
 use Rattle.fb_rules.proofs.Budgets.{fewer_reads}
-use Rattle.fb_verify.proofs.IntoField.{into_askable, into_stops, few_spent, passed_over, row_begins, far_turned}
-use Rattle.fb_verify.proofs.Turns.{halts_in_field}
-use Rattle.fb_verify.proofs.stack.Walk.go_to_union.Goals as goal
+use Rattle.fb_verify.proofs.{IntoField.into_askable, IntoField.into_stops, IntoField.few_spent, IntoField.passed_over, IntoField.row_begins, IntoField.far_turned, Turns.halts_in_field}
 use Rattle.fb_verify.proofs.stack.Walk.go_to_union.Goals.{After-put_union-failed}
+use Rattle.fb_verify.proofs.stack.Walk.go_to_union.Goals as goal
 
 pub put_union-failed-requires-clause-present : goal.put_union-failed-requires-clause-present
 put_union-failed-requires-clause-present g c = (((c.requires.0).at).present (live_of_view c.args.field.now) (c.requires.0).here).1
@@ -56,9 +51,6 @@ begins : (g : _) (c : After-put_union-failed g) → c.put_union-failed.result �
     → BeginsRow c.args.self.now c.args.self.now c.args.reads.now c.put_union-failed.new.reads g.under c.args.waiting c.args.top.now (record c.args.top.now { next = c.args.top.now.next + 1; number = c.args.field.now.number; row = c.put_union-failed.new.row })
 begins g c none more = row_begins c.requires.0 _ _ _ (tested g c) none _ _ (leads g c none) more
 
-unknown : Unknown ≡ Known → ⊥
-unknown e = cc
-
 pub pass_member-turn-requires : goal.pass_member-turn-requires
 pass_member-turn-requires g c =
     let d = (goal.at.pass_member-turn-requires g c).After-put_union-failed in
@@ -73,7 +65,7 @@ pass_member-turn-requires g c =
         allowed = fewer_reads (c.args.self.now.limits).reads _ _ (omega (arith, spent, c.may_open.ensures.room limits)) c.short_of.ensures.allowed;
         short = omega (arith, spent, c.may_open.ensures.room limits, c.short_of.ensures.short);
       },
-      (c.brim.ensures, ((λ e. absurd (unknown e)), (rw (all_of _ one.1).1 tt, c.requires.1.1))),
+      (c.brim.ensures, ((λ e. absurd cc), (rw (all_of _ one.1).1 tt, c.requires.1.1))),
     )
 
 -- a turn that stays before its word is one through its row
@@ -91,7 +83,7 @@ returns-in-Up g c =
     let new = c.pass_member-turn.new in
     let left : new.row.left ≡ 0 = omega (arith, ap (λ (x : Row). x.left) p.word, one.0) in
     rw c.in-Up.is
-    (far_turned c.args.self.now c.args.self.now new.self c.args.reads.now c.put_union-failed.new.reads new.reads g.under c.args.waiting c.args.top.now _ (record new.top { row = new.row }) new.child (begins g d none more) Up
+    (far_turned _ _ _ new.child (begins g d none more) Up
     (record { on = rw p.same p.on; rests = left; next = ap (λ (x : Frame). x.next) p.same }))
 
 pub returns-in_default-turn : goal.returns-in_default-turn
@@ -99,6 +91,4 @@ returns-in_default-turn g c =
     let d = (goal.at.returns-in_default-turn g c).After-put_union-failed in
     let none = c.in_default.is in
     let more : 0 < c.put_union-failed.new.row.left = omega (arith, c.if-row-eq0.false) in
-    let turned = row_left _ _ _ _ _ _ _ _ _ _ c.pass_member-turn.result c.in_default-turn.not-Up c.pass_member-turn.ensures in
-    let new = c.pass_member-turn.new in
-    far_turned c.args.self.now c.args.self.now new.self c.args.reads.now c.put_union-failed.new.reads new.reads g.under c.args.waiting c.args.top.now _ new.top new.child (begins g d none more) c.pass_member-turn.result turned
+    far_turned _ _ _ _ (begins g d none more) c.pass_member-turn.result (row_left _ _ _ _ _ _ _ _ _ _ c.pass_member-turn.result c.in_default-turn.not-Up c.pass_member-turn.ensures)

@@ -1,15 +1,8 @@
 use Rattle.std.proofs.Common.{◌≡◌, refl, ℕ, ◌<◌, ◌≤◌, nat_lt, true, false, Option, Some, arith}
 use Rattle.std.proofs.lemmas.Bool.Decides.{nat_tests}
-use Rattle.fb_rules.specs.declared.{fault.Fault.Fault, site.Site.Site}
-use Rattle.fb_rules.specs.declared.fault.Reason.TheVariants.{TooDeep, TooManyTables}
 use Rattle.fb_rules.specs.{Bounds.Bounds, Stops.budget_failure, Told.told, Told.stopped, Told.way_at, Order.◌▷◌}
+use Rattle.fb_rules.specs.declared.{fault.Fault.Fault, fault.Reason.TheVariants.TooDeep, fault.Reason.TheVariants.TooManyTables, site.Site.Site}
 use Rattle.fb_verify.proofs.stack.Walk.open_table.Goals as goal
-
-le_of : {a b x : ℕ} → x ≡ a → x ≤ b → a ≤ b
-le_of e h = omega arith
-
-lt_of : {a b x : ℕ} → x ≡ a → b < x → b < a
-lt_of e h = omega arith
 
 -- as many tables are open as may be
 too_deep : (L : Bounds) (site : Site) (links passed deepest paid at : ℕ) (rest : Option Fault) → L.depth ≤ links
@@ -28,18 +21,15 @@ too_many L site links passed deepest paid at rest l h =
 
 pub returns-then-links-depth : goal.returns-then-links-depth
 returns-then-links-depth c = record {
-  err = too_deep c.args.self.now.limits c.args.site c.args.links c.args.self.now.tables c.args.self.now.deepest c.args.loan.now.count c.args.child.at _ (le_of c.depth.ensures.value c.if-links-depth.true);
+  err = too_deep c.args.self.now.limits c.args.site c.args.links c.args.self.now.tables c.args.self.now.deepest c.args.loan.now.count c.args.child.at _ (rw c.depth.ensures.value at c.if-links-depth.true);
   bytes = refl;
 }
 
 pub returns-then-self-tables_of : goal.returns-then-self-tables_of
 returns-then-self-tables_of c = record {
-  err = too_many c.args.self.now.limits c.args.site c.args.links c.args.self.now.tables c.args.self.now.deepest c.args.loan.now.count c.args.child.at _ (lt_of c.depth.ensures.value c.if-links-depth.false) (le_of c.tables_of.ensures c.if-self-tables_of.true);
+  err = too_many c.args.self.now.limits c.args.site c.args.links c.args.self.now.tables c.args.self.now.deepest c.args.loan.now.count c.args.child.at _ (rw c.depth.ensures.value at c.if-links-depth.false) (rw c.tables_of.ensures at c.if-self-tables_of.true);
   bytes = refl;
 }
-
-low_of : {n d : ℕ} → n < d → d ≤ 4096 → n < 4096
-low_of deep few = omega arith
 
 pub returns-in-Ok : goal.returns-in-Ok
 returns-in-Ok c =
@@ -47,7 +37,7 @@ returns-in-Ok c =
     let depth = c.depth.ensures in
     let fewer = c.tables_of.ensures in
     record {
-      allowed = record { deep = rw depth.value at c.if-links-depth.false; low = low_of c.if-links-depth.false depth.in_range; fewer = rw fewer at c.if-self-tables_of.false; small = rw fewer at c.tables_of.type_inv };
+      allowed = record { deep = rw depth.value at c.if-links-depth.false; low = omega (arith, c.if-links-depth.false, depth.in_range); fewer = rw fewer at c.if-self-tables_of.false; small = rw fewer at c.tables_of.type_inv };
       ok = e.asked.ok;
       head = e.head;
       table = refl;

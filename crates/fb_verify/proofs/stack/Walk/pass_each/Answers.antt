@@ -1,15 +1,11 @@
-use Rattle.std.proofs.Common.{◌≡◌, ℕ, ◌+◌, ◌<◌, ◌≤◌, false, List, ltb, map, length, option_map, refl, sym, ◌∙◌, ap, arith}
+use Rattle.std.proofs.Common.{◌≡◌, ◌+◌, ◌<◌, map, length, option_map, refl, sym, ◌∙◌, ap, arith}
 use Rattle.std.proofs.lemmas.{Bool.ltb-false, Bool.ltb-true, Option.slice_get-map}
-use Rattle.fb_schema.specs.declared.views.FieldView.{FieldView}
-use Rattle.fb_rules.specs.declared.table.Table.{Table}
-use Rattle.fb_schema.specs.{Live.Live, Live.live_fields, Live.live_of_view, Steps.step_of}
-use Rattle.fb_rules.specs.Places.{vtable_size}
+use Rattle.fb_schema.specs.{Live.live_fields, Live.live_of_view, Steps.step_of}
+use Rattle.fb_rules.specs.{Places.vtable_size, declared.table.Table.Table}
 use Rattle.fb_verify.specs.{Stack.IsWalking, Units.PassesFields}
-use Rattle.fb_verify.proofs.Frames.{item_some, field_at, length_map}
-use Rattle.fb_verify.proofs.Walking.{err_exit, AtNext, askable, next_stops, next_leads, next_over}
-use Rattle.fb_verify.proofs.Passing.{AtStep, long, rest_absent, required_stops, some_past}
+use Rattle.fb_verify.proofs.{Frames.item_some, Frames.field_at, Frames.length_map, Walking.err_exit, Walking.AtNext, Walking.askable, Walking.next_stops, Walking.next_leads}
+use Rattle.fb_verify.proofs.{Walking.next_over, Passing.AtStep, Passing.long, Passing.rest_absent, Passing.required_stops, Passing.some_past, stack.Walk.pass_each.Goals.In-Some}
 use Rattle.fb_verify.proofs.stack.Walk.pass_each.Goals as goal
-use Rattle.fb_verify.proofs.stack.Walk.pass_each.Goals.{In-Some}
 
 -- the field that comes
 here : (g : _) (c : In-Some g) → AtNext c.args.self.now c.loop-field.loan g.under c.loop-field.top (live_of_view c.in-Some.field.now)
@@ -84,12 +80,9 @@ loop-field-preserved g c =
 pub stop_at-requires-clause-next : goal.stop_at-requires-clause-next
 stop_at-requires-clause-next g c = (some_past (live_fields c.args.self.now.schema.now (c.loop-field.top.table).object) c.loop-field.top.next c.in-Some-next_required.needed (sym c.next_required.ensures ∙ c.in-Some-next_required.is)).0
 
-all_passed : (xs : List FieldView) (fs : List Live) (n : ℕ) → map live_of_view xs ≡ fs → false ≡ ltb n (length xs) → length fs ≤ n
-all_passed xs fs n its past = omega (arith, ltb-false n (length xs) (sym past), ap length its, length_map live_of_view xs)
-
 pub returns : goal.returns
 returns g c =
     let i = c.loop-field.invariant in
     let its = c.fields_of-fields.ensures.value ∙ ap (λ (x : Table). live_fields c.args.self.now.schema.now x.object) (sym i.table) in
-    let all = all_passed c.fields_of-fields.result.now _ c.loop-field.top.next its c.in_default.ensures.lookup.0 in
-    (i, all)
+    let xs = c.fields_of-fields.result.now in
+    (i, omega (arith, ltb-false c.loop-field.top.next (length xs) (sym c.in_default.ensures.lookup.0), ap length its, length_map live_of_view xs))

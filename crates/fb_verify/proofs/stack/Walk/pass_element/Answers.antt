@@ -1,18 +1,12 @@
 use Rattle.std.proofs.Common.{◌≡◌, ◌+◌, refl, sym, ◌∙◌, ap, None, arith}
 use Rattle.fb_bytes.specs.Word.{Lent}
 use Rattle.fb_rules.specs.{Cost.lead_reads, OffsetRows.first_word, OffsetRows.lead_to, Order.element_failure}
-use Rattle.fb_rules.specs.declared.plain.Standing.TheVariants.{Known, Unknown}
-use Rattle.fb_rules.proofs.Words.{first_place}
-use Rattle.fb_verify.proofs.Flats.{word_told, is_leaf}
-use Rattle.fb_rules.proofs.Refusals.{unfound, tested_tells, spent, told_lead_reads}
+use Rattle.fb_rules.proofs.{Words.first_place, Refusals.unfound, Refusals.tested_tells, Refusals.spent, Refusals.told_lead_reads}
+use Rattle.fb_verify.proofs.{Flats.word_told, Flats.is_leaf, stack.Walk.pass_element.Goals.In_default}
 use Rattle.fb_verify.proofs.stack.Walk.pass_element.Goals as goal
-use Rattle.fb_verify.proofs.stack.Walk.pass_element.Goals.{In_default}
-
-unknown : Unknown ≡ Known → ⊥
-unknown e = cc
 
 pub test_lead-failed-requires-clause-stands : goal.test_lead-failed-requires-clause-stands
-test_lead-failed-requires-clause-stands c = λ e. absurd (unknown e)
+test_lead-failed-requires-clause-stands c = λ e. absurd cc
 
 -- an element of which no test failed holds
 holds : (c : In_default) → element_failure c.args.self.now.checks c.args.loan.now.bytes (first_word c.args.loan.now.bytes c.args.self.now.schema.now c.args.row) ≡ None

@@ -1,33 +1,18 @@
-use Rattle.std.proofs.Common.{◌≡◌, ℕ, List, map, Some, get_or, ◌^◌, ◌*◌, ◌+◌, ◌-◌, ◌<◌, ◌≤◌, length, refl, sym, ◌∙◌, ap, arith}
-use Rattle.fb_rules.specs.Bounds.{Bounds}
-use Rattle.fb_schema.specs.{Rows.Rows, Live.Live, Live.live_fields, Steps.step_of}
+use Rattle.std.proofs.Common.{◌≡◌, ℕ, List, map, Some, get_or, ◌*◌, ◌+◌, ◌-◌, ◌<◌, ◌≤◌, length, refl, sym, ◌∙◌, ap, arith}
+use Rattle.fb_rules.specs.{Bounds.Bounds, declared.table.Table.Table}
+use Rattle.fb_schema.specs.{Rows.Rows, Live.Live, Live.live_fields, Steps.step_of, declared.views.Step.Step}
+use Rattle.std.proofs.{Math.Nat.le_trans, lemmas.Option.slice_get-get_or}
 use Rattle.std.specs.Prelude.{slice_get}
-use Rattle.fb_schema.specs.declared.views.Step.{Step}
-use Rattle.std.proofs.lemmas.Option.{slice_get-get_or}
 use Rattle.fb_bytes.specs.Word.{Lent}
-use Rattle.fb_rules.specs.declared.table.Table.{Table}
-use Rattle.fb_verify.specs.declared.{scratch.Frame.Frame, stack.Walk.Walk}
-use Rattle.fb_verify.specs.{PassesOn.ComesToField, PassesOn.fields_left, Stack.work, Stack.Waiting, Turns.IsAtOpenField, Turns.IsAtStep}
+use Rattle.fb_verify.specs.{PassesOn.ComesToField, PassesOn.fields_left, Stack.work, Stack.Waiting, Turns.IsAtOpenField, Turns.IsAtStep, declared.scratch.Frame.Frame}
+use Rattle.fb_verify.specs.declared.stack.Walk.{Walk}
 use Rattle.fb_rules.proofs.{Budgets.fewer_reads, Plains.step_at}
-use Rattle.fb_verify.proofs.{Frames.length_map, Turning.halts_on, Turning.field_turned, Turning.field_over}
-use Rattle.fb_verify.proofs.Turns.{halts_in_field}
+use Rattle.fb_verify.proofs.{Frames.length_map, Turning.halts_on, Turning.field_turned, Turning.field_over, Turns.halts_in_field, stack.Walk.pass_fields.Goals.In-Ok-true}
 use Rattle.fb_verify.proofs.stack.Walk.pass_fields.Goals as goal
-use Rattle.fb_verify.proofs.stack.Walk.pass_fields.Goals.{In-Ok-true}
 
 -- what the loop over plain fields came to
 comes : (g : _) (c : In-Ok-true g) → ComesToField c.loop-steps.self c.loop-steps.reads c.pass_plain.new.reads g.under c.loop-steps.top c.pass_plain.new.top c.pass_plain.new.at
 comes g c = rw (c.in-Ok-true.is, c.in-Ok-true.field-0-test) at c.pass_plain.ensures.comes
-
--- On numbers.
-
-onto : {a b d : ℕ} → a ≤ b → b ≤ d → a ≤ d
-onto x y = omega arith
-
-one_less : (n a b k : ℕ) → n + a ≤ b + 1 → n ≡ k + 1 → n - 1 + a ≤ b
-one_less n a b k paid some = omega arith
-
-still_short : (n m left more : ℕ) → n + 6 * left ≤ m + 6 * more → m + 8 + 6 * more ≤ 2 ^ 56 → n ≤ 2 ^ 56
-still_short n m left more paid short = omega arith
 
 -- fields that were passed, for so many reads each at most, left less work
 passed_work : (S : Rows) (L : Bounds) (below : List Frame) (past top : Frame) (n r q : ℕ) → past ≡ record top { next = past.next } → top.next ≤ past.next → past.next ≤ length (live_fields S (top.table).object)
@@ -45,7 +30,7 @@ falls g c =
     let w = c.args.self.now in
     let schema = ap (λ (x : Walk). x.schema.now) i.same in
     let e = comes g c in
-    onto (passed_work w.schema.now w.limits (g.under).frames c.pass_plain.new.top c.loop-steps.top c.loop-steps.self.tables (c.pass_plain.new.reads.count - 1) c.loop-steps.reads.count p.same e.forth (rw schema at e.within) (one_less _ _ _ _ (rw schema at e.paid) (e.field).count)) i.falls
+    le_trans (passed_work w.schema.now w.limits (g.under).frames c.pass_plain.new.top c.loop-steps.top c.loop-steps.self.tables (c.pass_plain.new.reads.count - 1) c.loop-steps.reads.count p.same e.forth (rw schema at e.within) (omega (arith, rw schema at e.paid, (e.field).count))) i.falls
 
 pub returns-in-Ok-false : goal.returns-in-Ok-false
 returns-in-Ok-false g c =
@@ -62,10 +47,10 @@ returns-in-Ok-false g c =
         same = i.same;
         walking = e.walking;
         table = ap (λ x. x.table) p.same ∙ i.table;
-        falls = onto (passed_work S c.args.self.now.limits (g.under).frames c.pass_plain.new.top c.loop-steps.top c.loop-steps.self.tables c.pass_plain.new.reads.count c.loop-steps.reads.count p.same e.forth (rw schema at e.within) ends) i.falls;
-        grows = onto i.grows p.grows;
+        falls = le_trans (passed_work S c.args.self.now.limits (g.under).frames c.pass_plain.new.top c.loop-steps.top c.loop-steps.self.tables c.pass_plain.new.reads.count c.loop-steps.reads.count p.same e.forth (rw schema at e.within) ends) i.falls;
+        grows = omega (arith, i.grows, p.grows);
         bytes = p.bytes ∙ i.bytes;
-        short = still_short _ _ _ _ e.ends (c.has_room.ensures c.loop-steps-test.true).short;
+        short = omega (arith, e.ends, (c.has_room.ensures c.loop-steps-test.true).short);
       };
       rests = left ∙ c.loop-steps.invariant.1;
       all = rw long (rw schema at e.all);
@@ -76,10 +61,9 @@ returns-in-Err g c =
     let i = c.loop-steps.invariant.0 in
     let p = c.pass_plain.ensures in
     let e = c.stop_in_field.ensures in
-    let w = c.loop-steps.self in
     let stops = (rw c.in-Err.is at p.comes).err (c.stop_in_field.new.self.halt).stop (record { refusal = e.refusal; object = e.object; field = e.field }) in
     rw e.turn
-    (halts_on c.args.self.now w c.stop_in_field.new.self c.args.reads.now c.loop-steps.reads c.pass_plain.new.reads g.under i.same i.bytes
+    (halts_on {been = c.loop-steps.reads} i.same i.bytes
     (halts_in_field c.requires.0 p.bytes (i.walking).links e.links e.last stops))
 
 -- the field of the step at the next place
@@ -92,14 +76,6 @@ at_step {w} {m} {under} {waiting} {top} {place} steps d its within field =
     let found = step_at fs top.next (get_or steps top.next d) (ap (λ xs. slice_get xs top.next) (sym its) ∙ slice_get-get_or steps top.next d many) in
     (found.0, field found.0 found.1, found.2)
 
--- On numbers.
-
-within_steps : (S : List Live) (steps : List Step) (n : ℕ) → steps ≡ map step_of S → n < length S → n < length steps
-within_steps S steps n its within = omega (arith, within, ap length its, length_map step_of S)
-
-nearer : {a b d n m : ℕ} → d ≡ b + 1 → a ≤ b → b < m → m ≡ n → n - d < n - a
-nearer x y z u = omega arith
-
 -- the steps are those of the top's fields
 its : (g : _) (c : In-Ok-true g) → c.steps_of-steps.result.now ≡ map step_of (live_fields c.loop-steps.self.schema.now (c.pass_plain.new.top.table).object)
 its g c =
@@ -109,7 +85,7 @@ its g c =
 pub bounds-steps-top : goal.bounds-steps-top
 bounds-steps-top g c =
     let d = (goal.at.bounds-steps-top g c).In-Ok-true in
-    within_steps _ c.steps_of-steps.result.now c.pass_plain.new.top.next (its g d) ((comes g d).field).within
+    omega (arith, ((comes g d).field).within, ap length (its g d), length_map step_of (live_fields c.loop-steps.self.schema.now (c.pass_plain.new.top.table).object))
 
 pub pass_plain-requires : goal.pass_plain-requires
 pass_plain-requires g c =
@@ -124,7 +100,7 @@ loop-steps-smaller g c =
     let e = comes g d in
     let S = c.args.self.now.schema.now in
     let long = ap (λ (x : Frame). length (live_fields S (x.table).object)) c.pass_plain.ensures.same ∙ ap (λ (x : Table). length (live_fields S x.object)) i.table in
-    nearer c.in-Up.ensures.next e.forth (rw (ap (λ (x : Walk). x.schema.now) i.same) at (e.field).within) long
+    omega (arith, c.in-Up.ensures.next, e.forth, rw (ap (λ (x : Walk). x.schema.now) i.same) at (e.field).within, long)
 
 pub go_into-requires : goal.go_into-requires
 go_into-requires g c =
@@ -156,16 +132,14 @@ loop-steps-preserved g c =
     let d = (goal.at.loop-steps-preserved g c).In-Ok-true in
     let i = c.loop-steps.invariant.0 in
     let p = c.pass_plain.ensures in
-    field_over c.args.self.now c.loop-steps.self c.go_into.new.self c.args.reads.now c.pass_plain.new.reads c.go_into.new.reads g.under i.same (p.bytes ∙ i.bytes) c.args.top.now c.pass_plain.new.top c.go_into.new.top c.go_into.new.child
-    (ap (λ x. x.table) p.same ∙ i.table) (onto i.grows p.grows) (falls g d) (rw c.in-Up.is at c.go_into.ensures)
+    field_over _ _ _ _ _ _ _ i.same (p.bytes ∙ i.bytes) _ _ _ c.go_into.new.child (ap (λ x. x.table) p.same ∙ i.table) (omega (arith, i.grows, p.grows)) (falls g d) (rw c.in-Up.is at c.go_into.ensures)
 
 pub returns-in_default : goal.returns-in_default
 returns-in_default g c =
     let d = (goal.at.returns-in_default g c).In-Ok-true in
     let i = c.loop-steps.invariant.0 in
     let p = c.pass_plain.ensures in
-    field_turned c.args.self.now c.loop-steps.self c.go_into.new.self c.args.reads.now c.pass_plain.new.reads c.go_into.new.reads g.under i.same (p.bytes ∙ i.bytes) c.args.top.now c.pass_plain.new.top c.go_into.new.top c.go_into.new.child
-    (ap (λ x. x.table) p.same ∙ i.table) (onto i.grows p.grows) (falls g d) c.go_into.result c.in_default.not-Up c.go_into.ensures
+    field_turned _ _ _ _ _ _ _ i.same (p.bytes ∙ i.bytes) _ _ _ _ (ap (λ x. x.table) p.same ∙ i.table) (omega (arith, i.grows, p.grows)) (falls g d) c.go_into.result c.in_default.not-Up c.go_into.ensures
 
 pub stop_in_field-requires-clause-next : goal.stop_in_field-requires-clause-next
 stop_in_field-requires-clause-next g c = rw (ap (λ (x : Frame). x.table) c.pass_plain.ensures.same) (c.in-Err.ensures.comes).next

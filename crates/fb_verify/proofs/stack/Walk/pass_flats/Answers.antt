@@ -1,15 +1,14 @@
 use Rattle.std.proofs.Common.{◌≡◌, ℕ, zero, suc, ◌<◌, ◌≤◌, ◌^◌, ◌+◌, ◌-◌, ◌*◌, max, length, refl, sym, ◌∙◌, ap, subst, arith}
 use Rattle.fb_schema.specs.{Live.live_fields, Steps.step_of}
-use Rattle.fb_rules.specs.declared.{offset_row.Row.Row, offset_row.Leads.Leads, offset_row.Leads.TheVariants.All, offset_row.Referent.TheVariants.Table as ATable}
-use Rattle.fb_verify.specs.declared.stack.Walk.{Walk}
-use Rattle.fb_verify.specs.Turns.{GoesOn, with_tables}
-use Rattle.fb_rules.specs.{Bounds.AreAllowed, Fields.to_table, Order.after, Order.lead_failure, OffsetRows.leads_after, OffsetRows.past_first, Plain.tested_by}
+use Rattle.fb_rules.specs.{Bounds.AreAllowed, Fields.to_table, Order.after, Order.lead_failure, OffsetRows.leads_after, Plain.tested_by, declared.offset_row.Row.Row}
+use Rattle.fb_rules.specs.declared.offset_row.{Leads.Leads, Leads.TheVariants.All, Referent.TheVariants.Table as ATable}
+use Rattle.fb_verify.specs.{Turns.GoesOn, Turns.with_tables, declared.stack.Walk.Walk, declared.flat.Extent.Extent}
+use Rattle.fb_verify.specs.declared.flat.Extent.TheVariants.{Whole, Part}
 use Rattle.fb_rules.proofs.Budgets.{fewer_reads}
 use Rattle.fb_verify.proofs.{Flats.at_flat, Flats.word_tells, Frames.length_map}
-use Rattle.fb_verify.proofs.RowTurns.{two, Counts, flat_comes, table_passed, table_halts, word_halts, word_stands, next_stands, none_with, one_with, stays}
-use Rattle.fb_verify.specs.declared.flat.Extent.{Extent, TheVariants.Whole, TheVariants.Part}
-use Rattle.fb_verify.proofs.stack.Walk.pass_flats.Goals as goal
+use Rattle.fb_verify.proofs.RowTurns.{two, Counts, flat_comes, table_passed, table_halts, word_halts, word_stands, fewer_left, next_stands, none_with, one_with, stays}
 use Rattle.fb_verify.proofs.stack.Walk.pass_flats.Goals.{After-follow-failed, After-advance_all}
+use Rattle.fb_verify.proofs.stack.Walk.pass_flats.Goals as goal
 
 pub returns-then-not-stands : goal.returns-then-not-stands
 returns-then-not-stands g c child = let r = ((c.requires.0).down).row in stays c.args.self.now c.args.reads.now g.under c.args.top.now r.walking r.short
@@ -125,9 +124,6 @@ returns-in-Some-came g c child =
     let passes = rw (i.self, i.top, sym (((c.requires.0).down).row).many, c.in-Some-came.is) at c.pass_alike-came.ensures.passes in
     rw (e.turn, i.top) (table_halts (counts g d) came.next came.at c.in-Some-came.reason came.reads c.stop_in_flat.new.self passes e.links e.head (rw i.self at e.field))
 
-spend : (some cost now k : ℕ) {left q mid all : ℕ} → some + cost ≡ left → 4 + 6 * k ≤ cost → q ≤ mid + 3 + 6 * k → mid ≡ now + 1 → now + left ≤ all → q + some ≤ all
-spend some cost now k e c p m h = omega arith
-
 pub loop-schema-preserved : goal.loop-schema-preserved
 loop-schema-preserved g c =
     let d = (goal.at.loop-schema-preserved g c).After-advance_all in
@@ -146,7 +142,7 @@ loop-schema-preserved g c =
       on = table_passed (counts g d) came.next came.at came.reads (rw none at p) (omega (arith, p.paid none, paid g d, long g e, (room g e).1));
       fewer = omega (arith, i.fewer, ap (λ (x : Row). x.left) c.advance_all.ensures);
       stands = rw bytes stands;
-      paid = rw (ap (λ (x : Row). x.left) c.advance_all.ensures) (spend (((c.loop-schema.row).left - 1) * cost) cost c.loop-schema.reads.count (length fs) (split (c.loop-schema.row).left cost (more g e)) (omega arith) (p.paid none) (paid g d) i.paid);
+      paid = rw (ap (λ (x : Row). x.left) c.advance_all.ensures) (omega (arith, split (c.loop-schema.row).left cost (more g e), p.paid none, paid g d, i.paid));
       leads = ap (λ (x : Row). x.leads) c.advance_all.ensures ∙ ap leads_after (leads g e) ∙ sym (c.requires.0).leads;
       kept = rw (sym p.bytes, c.steps_of-steps.ensures.value) at (c.pass_alike-came.ensures.kept none);
     }
@@ -172,9 +168,6 @@ loop-schema-init g c =
 
 pub follow-failed-requires-clause-stands : goal.follow-failed-requires-clause-stands
 follow-failed-requires-clause-stands g c = word_stands (c.loop-schema.invariant).stands (c.has_next.ensures.more c.loop-schema-test.true)
-
-fewer_left : (row past : Row) → past ≡ past_first row → 0 < row.left → past.left < row.left
-fewer_left row past same more = omega (arith, ap (λ (x : Row). x.left) same)
 
 pub loop-schema-smaller : goal.loop-schema-smaller
 loop-schema-smaller g c = fewer_left _ _ c.advance_all.ensures (c.has_next.ensures.more c.loop-schema-test.true)

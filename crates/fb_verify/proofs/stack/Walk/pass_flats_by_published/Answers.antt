@@ -1,12 +1,7 @@
-use Rattle.std.proofs.Common.{◌≡◌}
-use Rattle.fb_rules.specs.declared.passed.Sizes.TheVariants.{Any, Small}
 use Rattle.fb_verify.proofs.stack.Walk.pass_flats_by_published.Goals as goal
 
 pub returns : goal.returns
 returns g c child = rw c.settle.ensures (rw c.lend-own.ensures.lent at (c.pass_flats-turn.ensures child))
 
-any_small : Any ≡ Small → ⊥
-any_small e = cc
-
 pub pass_flats-turn-requires : goal.pass_flats-turn-requires
-pass_flats-turn-requires g c = rw c.lend-own.ensures.lent (c.requires.0, (c.requires.1.0, ((λ e. absurd (any_small e)), λ _. c.requires.1.1)))
+pass_flats-turn-requires g c = rw c.lend-own.ensures.lent (c.requires.0, (c.requires.1.0, ((λ e. absurd cc), λ _. c.requires.1.1)))

@@ -1,18 +1,14 @@
 use Rattle.std.proofs.Common.{ℕ, List, map, None, ◌≡◌, ◌≤◌, ◌+◌, max, length, refl, sym, ◌∙◌, ap, subst, arith}
-use Rattle.fb_schema.specs.{Rows.Rows, Live.live_fields, Live.widest, Steps.step_of}
-use Rattle.fb_schema.specs.declared.views.Step.{Step}
+use Rattle.fb_schema.specs.{Rows.Rows, Live.live_fields, Live.widest, Steps.step_of, declared.views.Step.Step}
 use Rattle.fb_schema.proofs.LookLemmas.{within_widest}
-use Rattle.fb_rules.specs.declared.offset_row.Row.{Row}
-use Rattle.fb_verify.specs.declared.stack.Walk.{Walk}
 use Rattle.fb_rules.specs.{Cost.lead_reads, Fields.Entry, Order.after, Order.element_failure, Plain.tested_by}
-use Rattle.fb_verify.specs.Turns.{GoesOn}
-use Rattle.fb_rules.specs.OffsetRows.{lead_to, first_word, IsReferent, IsLeafLead}
+use Rattle.fb_rules.specs.{OffsetRows.lead_to, OffsetRows.first_word, OffsetRows.IsReferent, OffsetRows.IsLeafLead, declared.offset_row.Row.Row}
+use Rattle.fb_verify.specs.{Turns.GoesOn, declared.stack.Walk.Walk}
 use Rattle.fb_rules.proofs.{Budgets.fewer_reads, Chains.after_none, Few.first_few}
-use Rattle.fb_verify.proofs.{Frames.length_map, Flats.word_told, Flats.is_leaf}
-use Rattle.fb_verify.proofs.Walking.{leaf_passed}
+use Rattle.fb_verify.proofs.{Frames.length_map, Flats.word_told, Flats.is_leaf, Walking.leaf_passed}
 use Rattle.fb_verify.proofs.RowTurns.{stays, two, Counts, word_passed, flat_comes, goes_down, table_passed, table_halts, word_halts}
-use Rattle.fb_verify.proofs.stack.Walk.pass_member.Goals as goal
 use Rattle.fb_verify.proofs.stack.Walk.pass_member.Goals.{After-test_lead-failed, After-count_table}
+use Rattle.fb_verify.proofs.stack.Walk.pass_member.Goals as goal
 
 -- the first word of the row
 abbrev first : (g : _) → After-test_lead-failed g → Entry

@@ -1,35 +1,25 @@
-use Rattle.std.proofs.Common.{◌≡◌, ℕ, ◌<◌, ◌≤◌, refl, sym, ◌∙◌, ap, subst, arith}
+use Rattle.std.proofs.Common.{◌≡◌, refl, sym, ◌∙◌, ap, subst, arith}
 use Rattle.fb_bytes.specs.Word.{Lent}
-use Rattle.fb_schema.specs.declared.targets.Targets.{Targets}
-use Rattle.fb_schema.specs.Rows.{Rows}
-use Rattle.fb_rules.specs.declared.{table.Child.Child, offset_row.Leads.Leads, offset_row.Row.Row}
-use Rattle.fb_rules.specs.declared.offset_row.Leads.TheVariants.{All, ByType}
-use Rattle.fb_rules.specs.OffsetRows.{AreTargetsOf, leads_after, past_first}
-use Rattle.fb_verify.specs.declared.{scratch.Frame.Frame, stack.Turn.Turn, stack.Walk.Walk}
-use Rattle.fb_verify.specs.declared.stack.Turn.TheVariants.{Down, Up, Slowly, Halt as Halted}
-use Rattle.fb_verify.specs.Stack.{Waiting}
-use Rattle.fb_verify.specs.Turns.{GoesOn, MemberTurned, RowTurned}
+use Rattle.fb_schema.specs.{Rows.Rows, declared.targets.Targets.Targets}
+use Rattle.fb_rules.specs.{OffsetRows.AreTargetsOf, OffsetRows.leads_after, declared.table.Child.Child}
+use Rattle.fb_rules.specs.declared.offset_row.{Leads.Leads, Row.Row, Leads.TheVariants.All, Leads.TheVariants.ByType}
+use Rattle.fb_verify.specs.{Stack.Waiting, Turns.GoesOn, Turns.MemberTurned, Turns.RowTurned, declared.scratch.Frame.Frame}
+use Rattle.fb_verify.specs.declared.stack.{Turn.Turn, Walk.Walk, Turn.TheVariants.Down, Turn.TheVariants.Up, Turn.TheVariants.Slowly, Turn.TheVariants.Halt as Halted}
 use Rattle.fb_rules.proofs.Budgets.{fewer_reads}
-use Rattle.fb_verify.proofs.{RowTurns.stays, RowTurns.word_stands, RowTurns.next_stands, Turning.goes_on, Turning.goes_down, Turning.halts_on}
+use Rattle.fb_verify.proofs.{RowTurns.stays, RowTurns.word_stands, RowTurns.fewer_left, RowTurns.next_stands, Turning.goes_on, Turning.goes_down, Turning.halts_on}
 use Rattle.fb_verify.proofs.stack.Walk.pass_members.Goals as goal
-
-grown : {a b c : ℕ} → a ≤ b → b ≤ c → a ≤ c
-grown x y = omega arith
-
-fewer_left : (row past : Row) → past ≡ past_first row → 0 < row.left → past.left < row.left
-fewer_left row past same more = omega (arith, ap (λ (x : Row). x.left) same)
 
 targets_after : (S : Rows) (targets : Targets) (leads : Leads) → AreTargetsOf S targets leads → AreTargetsOf S targets (leads_after leads)
 targets_after S targets (All referent) h = h
 targets_after S targets (ByType union types) h = h
 
 -- a turn past a word, from where the walk came to before
-module _ (w mid then : Walk) (m been new : Lent) (under : Waiting) (top t past : Frame) (row left : Row) (on : GoesOn w mid m been under top (record t { row = row })) where
-  word_turned : (child : Child) (turn : Turn) → (turn ≡ Up → ⊥) → MemberTurned mid then been new under t past row left child turn → RowTurned w then m new under top past child turn
-  word_turned child Down up h = goes_down w mid then m been new under on.same on.bytes on.table on.falls (grown on.grows h.grows) h
-  word_turned child Up up h = absurd (up refl)
-  word_turned child Slowly up h = absurd h
-  word_turned child Halted up h = halts_on w mid then m been new under on.same on.bytes h
+module _ {w mid : Walk} (then : Walk) {m been : Lent} (new : Lent) {under : Waiting} {top : Frame} (t past : Frame) {row : Row} (left : Row) (child : Child) (on : GoesOn w mid m been under top (record t { row = row })) where
+  word_turned : (turn : Turn) → (turn ≡ Up → ⊥) → MemberTurned mid then been new under t past row left child turn → RowTurned w then m new under top past child turn
+  word_turned Down up h = goes_down on.same on.bytes on.table on.falls (omega (arith, on.grows, h.grows)) h
+  word_turned Up up h = absurd (up refl)
+  word_turned Slowly up h = absurd h
+  word_turned Halted up h = halts_on on.same on.bytes h
 
 pub returns-then-not-stands : goal.returns-then-not-stands
 returns-then-not-stands g c = let r = (c.requires.0).row in stays c.args.self.now c.args.reads.now g.under c.args.top.now r.walking r.short
@@ -72,13 +62,11 @@ loop-targets-preserved g c =
     let i = c.loop-targets.invariant in
     let e = c.in-Up.ensures in
     record {
-      on = rw e.same (goes_on c.args.self.now c.loop-targets.self c.pass_member.new.self c.args.reads.now c.loop-targets.reads c.pass_member.new.reads g.under (i.on).same (i.on).bytes (i.on).table (i.on).falls (grown (i.on).grows (e.on).grows) e.on);
+      on = rw e.same (goes_on (i.on).same (i.on).bytes (i.on).table (i.on).falls (omega (arith, (i.on).grows, (e.on).grows)) e.on);
       next = ap (λ (x : Frame). x.next) e.same ∙ i.next;
       stands = rw (e.on).bytes (next_stands i.stands (c.has_word.ensures c.loop-targets-test.true).more e.word);
       targets = rw e.word (targets_after c.args.self.now.schema.now c.targets_of-targets.result c.loop-targets.row.leads i.targets);
     }
 
 pub returns-in_default : goal.returns-in_default
-returns-in_default g c =
-    word_turned c.args.self.now c.loop-targets.self c.pass_member.new.self c.args.reads.now c.loop-targets.reads c.pass_member.new.reads g.under c.args.top.now c.loop-targets.top c.pass_member.new.top c.loop-targets.row c.pass_member.new.row
-    c.loop-targets.invariant.on c.pass_member.new.child c.pass_member.result c.in_default.not-Up c.pass_member.ensures
+returns-in_default g c = word_turned _ _ _ _ _ _ c.loop-targets.invariant.on c.pass_member.result c.in_default.not-Up c.pass_member.ensures

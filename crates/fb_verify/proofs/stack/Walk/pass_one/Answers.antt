@@ -1,25 +1,9 @@
-use Rattle.std.proofs.Common.{ℕ, ◌+◌, ◌<◌, ◌≤◌, min, refl, ap, arith}
+use Rattle.std.proofs.Common.{◌+◌, refl, ap, arith}
 use Rattle.std.proofs.lemmas.List.{get_or-set_same}
 use Rattle.fb_verify.specs.{Stack.blank, Units.PassesLeaf, Units.LeadsToTable}
-use Rattle.fb_verify.proofs.{Frames.row_types_near, Walking.leaf_falls, Walking.leaf_passed, Walking.word_stops}
-use Rattle.fb_verify.proofs.Turns.{at_table, child_opened, child_stops, child_work}
-use Rattle.fb_verify.proofs.stack.Walk.pass_one.Goals as goal
+use Rattle.fb_verify.proofs.{Frames.row_types_near, Walking.leaf_falls, Walking.leaf_passed, Walking.word_stops, Turns.at_table, Turns.child_opened, Turns.child_stops, Turns.child_work}
 use Rattle.fb_verify.proofs.stack.Walk.pass_one.Goals.{In-Ok-Some}
-
--- On numbers.
-
-grown : (a b d : ℕ) → a ≤ a + b + d
-grown a b d = omega arith
-
-grown_more : (a b d e : ℕ) → a ≤ a + b + d + e
-grown_more a b d e = omega arith
-
-from_there : {x : ℕ} (y a b n : ℕ) → x < b + y → b + n ≤ a + n → x < a + y
-from_there y a b n less paid = omega arith
-
--- there is a frame for a table below the top
-has_frame : (waiting : ℕ) {d n : ℕ} → waiting + 1 < d → min d (waiting + 2) ≤ waiting + 1 + n → 0 < n
-has_frame waiting deep room = omega arith
+use Rattle.fb_verify.proofs.stack.Walk.pass_one.Goals as goal
 
 pub returns-in-Ok-None : goal.returns-in-Ok-None
 returns-in-Ok-None g c =
@@ -30,7 +14,7 @@ returns-in-Ok-None g c =
       same = refl;
       walking = leaf_passed h c.advance.new.self _ c.advance.ensures more e.ok refl e.leaf (rw e.counted at e.reads);
       falls = leaf_falls h c.advance.new.self _ c.advance.ensures more refl;
-      grows = grown _ _ _;
+      grows = omega arith;
       bytes = refl;
     })
 
@@ -51,12 +35,12 @@ returns-in-Ok g c =
     let mi = ap (λ n. n + 1) c.requires.0 in
     let n = c.args.waiting + 1 in
     let row = c.advance.new.self in
-    let first = get_or-set_same c.args.room.now 0 c.opened.result blank (has_frame c.args.waiting t.allowed.deep c.requires.1.1.1.0) in
+    let first = get_or-set_same c.args.room.now 0 c.opened.result blank (omega (arith, t.allowed.deep, c.requires.1.1.1.0)) in
     rw (first, c.opened.ensures, t.opened, t.counted) (record {
       same = refl;
       walking = child_opened o n mi row c.advance.ensures c.in-Ok.table t.table t.ok t.allowed.fewer t.allowed.deep t.allowed.low t.head (rw t.counted at t.reads);
-      falls = from_there _ _ _ _ (child_work o n mi row c.advance.ensures c.in-Ok.table t.table t.ok t.allowed.fewer t.allowed.deep t.allowed.low) o.paid;
-      grows = grown_more _ _ _ _;
+      falls = omega (arith, child_work o n mi row c.advance.ensures c.in-Ok.table t.table t.ok t.allowed.fewer t.allowed.deep t.allowed.low, o.paid);
+      grows = omega arith;
       bytes = refl;
     })
 

@@ -1,11 +1,9 @@
 use Rattle.std.proofs.Common.{◌≡◌, ℕ, ◌+◌, ◌*◌, ◌^◌, ◌<◌, true, false, Bool, List, [], map, length, refl, sym, ◌∙◌, ap, subst, arith, Ok}
 use Rattle.fb_bytes.specs.Word.{Lent}
-use Rattle.fb_schema.specs.declared.views.Step.{Step}
-use Rattle.fb_schema.specs.{Live.live_fields, Steps.is_plain, Steps.step_of}
-use Rattle.fb_rules.specs.Bounds.{AreAllowed}
-use Rattle.fb_rules.specs.declared.table.Table.{Table}
-use Rattle.fb_verify.specs.declared.stack.Walk.{Walk}
+use Rattle.fb_schema.specs.{Live.live_fields, Steps.is_plain, Steps.step_of, declared.views.Step.Step}
+use Rattle.fb_rules.specs.{Bounds.AreAllowed, declared.table.Table.Table}
 use Rattle.fb_verify.specs.{PassesOn.fields_left, PassesOn.HasRoom, PassesOn.IsBetween, PassesOn.PassesOn, Stack.IsWalking, Stack.opened, Stack.Waiting, Turns.WentOver}
+use Rattle.fb_verify.specs.declared.stack.Walk.{Walk}
 use Rattle.fb_verify.proofs.{Flats.never_on, Frames.length_map, Turning.went_over}
 use Rattle.fb_verify.proofs.stack.Walk.pass_root.Goals as goal
 

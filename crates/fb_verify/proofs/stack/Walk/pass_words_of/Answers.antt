@@ -1,12 +1,10 @@
-use Rattle.std.proofs.Common.{◌≡◌, ℕ, ◌+◌, ◌*◌, ◌≤◌, refl, sym, ◌∙◌, ap, subst, arith}
-use Rattle.fb_rules.specs.declared.offset_row.Row.{Row}
+use Rattle.std.proofs.Common.{◌≡◌, ◌+◌, ◌*◌, refl, sym, ◌∙◌, ap, subst, arith}
 use Rattle.fb_rules.specs.{Cost.lead_reads, Fields.Entry, Order.after, Order.element_failure, Plain.tested_by}
-use Rattle.fb_rules.specs.OffsetRows.{lead_to, first_word, past_first, leads_after, IsLeafLead}
+use Rattle.fb_rules.specs.{OffsetRows.lead_to, OffsetRows.first_word, OffsetRows.past_first, OffsetRows.leads_after, OffsetRows.IsLeafLead, declared.offset_row.Row.Row}
 use Rattle.fb_rules.proofs.{Budgets.fewer_reads, Chains.after_none, Few.first_few}
-use Rattle.fb_verify.proofs.{RowTurns.word_passed, RowTurns.word_stands, RowTurns.next_stands, Walking.leaf_passed}
-use Rattle.fb_verify.proofs.Flats.{all_lead, all_free, all_told, word_fails}
-use Rattle.fb_verify.proofs.stack.Walk.pass_words_of.Goals as goal
+use Rattle.fb_verify.proofs.{RowTurns.word_passed, RowTurns.word_stands, RowTurns.next_stands, Walking.leaf_passed, Flats.all_lead, Flats.all_free, Flats.all_told, Flats.word_fails}
 use Rattle.fb_verify.proofs.stack.Walk.pass_words_of.Goals.{After-test_lead-failed}
+use Rattle.fb_verify.proofs.stack.Walk.pass_words_of.Goals as goal
 
 -- the first word of that row
 abbrev first : (g : _) → After-test_lead-failed g → Entry
@@ -64,10 +62,7 @@ loop-row-preserved g c =
 pub test_lead-failed-requires-clause-stands : goal.test_lead-failed-requires-clause-stands
 test_lead-failed-requires-clause-stands g c = λ _. word_stands (c.loop-row.invariant).stands c.loop-row-test.true
 
-nothing : {n : ℕ} → n ≤ 0 → n ≡ 0
-nothing h = omega arith
-
 pub returns-clause-rests : goal.returns-clause-rests
 returns-clause-rests g c =
     let i = c.loop-row.invariant in
-    rw i.same (record { on = i.on; rests = nothing c.loop-row-test.false; next = refl })
+    rw i.same (record { on = i.on; rests = omega (arith, c.loop-row-test.false); next = refl })

@@ -1,7 +1,6 @@
 use Rattle.std.proofs.{Common.nat_lt, Common.ap, Common.arith, Math.Nat.add-sub_cancel}
 use Rattle.fb_schema.specs.Live.{live_of_view}
-use Rattle.fb_verify.proofs.IntoField.{into_askable, into_stops, passed_over, row_begins}
-use Rattle.fb_verify.proofs.Turns.{halts_in_field}
+use Rattle.fb_verify.proofs.{IntoField.into_askable, IntoField.into_stops, IntoField.passed_over, IntoField.row_begins, Turns.halts_in_field}
 use Rattle.fb_verify.proofs.stack.Walk.put_far.Goals as goal
 
 pub put_row_by-failed-requires : goal.put_row_by-failed-requires

@@ -1,6 +1,5 @@
 use Rattle.std.proofs.Common.{◌≡◌, ℕ, arith}
-use Rattle.fb_schema.specs.declared.kinds.Kind.{Kind}
-use Rattle.fb_schema.specs.declared.kinds.Kind.TheVariants.{Union, Texts, Tables, Unions}
+use Rattle.fb_schema.specs.declared.kinds.Kind.{Kind, TheVariants.Union, TheVariants.Texts, TheVariants.Tables, TheVariants.Unions}
 use Rattle.fb_verify.specs.Turns.{IsFar}
 use Rattle.fb_rules.proofs.Words.{vector_left}
 use Rattle.fb_verify.proofs.stack.Walk.put_row_by.Goals as goal

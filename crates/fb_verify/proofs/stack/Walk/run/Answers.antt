@@ -1,16 +1,13 @@
-use Rattle.std.proofs.Common.{◌≡◌, ℕ, ◌+◌, ◌<◌, ◌≤◌, List, [], length, refl, sym, ◌∙◌, ap, arith, Option, Some, None, Result, Ok, Err}
-use Rattle.std.proofs.Math.ListN.{length-set}
-use Rattle.std.proofs.lemmas.{List.get_or-set_same, List.Elements.All-nil}
+use Rattle.std.proofs.Common.{◌≡◌, ℕ, ◌<◌, List, [], length, refl, sym, ◌∙◌, ap, arith, Option, Result}
+use Rattle.std.proofs.{Math.ListN.length-set, lemmas.List.get_or-set_same, lemmas.List.Elements.All-nil}
 use Rattle.fb_bytes.specs.Word.{Lent}
-use Rattle.fb_rules.specs.declared.{site.Halt.Halt, table.Table.Table}
-use Rattle.fb_rules.specs.Told.{stopped, way_at}
+use Rattle.fb_rules.specs.{Told.stopped, Told.way_at, declared.site.Halt.Halt, declared.table.Table.Table}
+use Rattle.fb_verify.specs.{Turns.GoneOn, Turns.UsedUp, Stack.blank, Stack.opened, Stack.IsFrame, Stack.IsLinked, Stack.IsUnderWay, Stack.Origin, Stack.StopsIn, Stack.work}
 use Rattle.fb_verify.specs.declared.{scratch.Frame.Frame, stack.Walk.Walk}
-use Rattle.fb_verify.specs.Turns.{GoneOn}
-use Rattle.fb_verify.specs.Stack.{blank, opened, IsFrame, IsLinked, IsUnderWay, Origin, StopsIn, work}
 use Rattle.fb_rules.proofs.Few.{head_few}
 use Rattle.fb_verify.proofs.{Frames.frame_opened, Frames.work_opened, Standings.begin, Standings.stop_at_root}
-use Rattle.fb_verify.proofs.Turning.{gone_from, over_from, ran_deeper, root_kept, wrong_from}
-use Rattle.fb_verify.proofs.stack.Walk.run.Goals.{In-Err, In-Ok, Joined-is_plain, then-is_plain+in_default, else-is_plain}
+use Rattle.fb_verify.proofs.Turning.{gone_from, over_from, ran_deeper, slowly, wrong_from}
+use Rattle.fb_verify.proofs.stack.Walk.run.Goals.{In-Err, In-Ok, In-Ok-Some, After-go_on, Joined-is_plain, then-is_plain+in_default, else-is_plain}
 use Rattle.fb_verify.proofs.stack.Walk.run.Goals as goal
 
 -- where the root table can't be opened, no frame leads there
@@ -23,19 +20,16 @@ fails_at_root g c =
     let stops = stop_at_root ch b S c.args.self.now.limits s c.args.root.at c.args.site c.args.self.now.tables c.args.self.now.deepest c.args.loan.now.count _ refl refl c.requires.1.1.1.1.1.1.0 c.requires.1.1.1.1.1.1.1.0 c.requires.1.1.1.1.1.1.1.1.0 c.in-Err.ensures.err in
     rw c.requires.0 (record { along = stops; linked = All-nil (IsLinked ch b S) })
 
-none_open : (n : ℕ) → 0 + 0 ≤ n
-none_open n = omega arith
-
 pub returns-in-Err : goal.returns-in-Err
 returns-in-Err g c =
     let e = fails_at_root g (goal.at.returns-in-Err g c).In-Err in
-    rw c.halt.ensures (record { rows = []; wrong = record { deep = none_open _; err = e; bytes = c.in-Err.ensures.bytes }; along = λ _. e })
+    rw c.halt.ensures (record { rows = []; wrong = record { deep = omega arith; err = e; bytes = c.in-Err.ensures.bytes }; along = λ _. e })
 
 -- the root table wasn't passed before
 kept : (g : _) (c : Joined-is_plain g) → (c.if-is_plain.self ≡ c.open_table.new.self) × (c.if-is_plain.loan ≡ c.open_table.new.loan)
 kept g c = elim c.if-is_plain.branch [
   | then-is_plain+in_default w ↦
-      let k = root_kept c.open_table.new.self w.pass_root.new.self c.open_table.new.loan w.pass_root.new.loan g.start w.pass_root.result w.in_default.not-Up w.in_default.not-Halt w.pass_root.ensures in
+      let k = slowly _ _ w.pass_root.result w.in_default.not-Up w.in_default.not-Halt w.pass_root.ensures in
       (rw w.self-is k.0, rw w.loan-is k.1)
   | else-is_plain w ↦ (rw w.self-is refl, rw w.loan-is refl)
 ]
@@ -94,28 +88,32 @@ go_on-requires g c =
 
 gone : (g : _) (c : Joined-is_plain g) (then : Walk) (new : Lent) (frames : List Frame) (r : Result (Option ℕ) Halt) → GoneOn c.if-is_plain.self then c.if-is_plain.loan new g.start frames r
     → GoneOn c.args.self.now then c.args.loan.now new g.start frames r
-gone g c then new frames r h =
-    let k = kept g c in
-    gone_from c.args.self.now c.if-is_plain.self then c.args.loan.now c.if-is_plain.loan new g.start _ _ (k.0 ∙ c.in-Ok.ensures.opened) (ap (λ (x : Lent). x.bytes) k.1 ∙ c.in-Ok.ensures.bytes) frames r h
+gone g c then new frames r h = let k = kept g c in gone_from _ _ _ _ _ _ _ (k.0 ∙ c.in-Ok.ensures.opened) (ap (λ (x : Lent). x.bytes) k.1 ∙ c.in-Ok.ensures.bytes) _ r h
+
+-- what it came to
+came : (g : _) (c : After-go_on g) → GoneOn c.args.self.now c.go_on.new.self c.args.loan.now c.go_on.new.loan g.start c.go_on.new.frames c.go_on.result
+came g c = gone g (goal.at.After-go_on g c).Joined-is_plain _ _ _ c.go_on.result (rw (c.again-walk.ensures, c.hand_on-rest.ensures.same) at c.go_on.ensures)
 
 pub returns-in-Ok-None : goal.returns-in-Ok-None
-returns-in-Ok-None g c = gone g (goal.at.returns-in-Ok-None g c).Joined-is_plain c.go_on.new.self c.go_on.new.loan c.go_on.new.frames (Ok None) (rw (c.again-walk.ensures, c.hand_on-rest.ensures.same, c.in-Ok-None.is, c.in-Ok-None.field-0-is) at c.go_on.ensures)
+returns-in-Ok-None g c = rw (c.in-Ok-None.is, c.in-Ok-None.field-0-is) at (came g (goal.at.returns-in-Ok-None g c).After-go_on)
 
 pub returns-in-Err-go_on : goal.returns-in-Err-go_on
 returns-in-Err-go_on g c =
-    let e = gone g (goal.at.returns-in-Err-go_on g c).Joined-is_plain c.go_on.new.self _ _ (Err c.in-Err-go_on.halt) (rw (c.again-walk.ensures, c.hand_on-rest.ensures.same) at c.in-Err-go_on.ensures) in
+    let e = rw c.in-Err-go_on.is at (came g (goal.at.returns-in-Err-go_on g c).After-go_on) in
     record { rows = c.go_on.new.frames; wrong = e; along = λ _. e.err }
 
 -- where these frames are used up, and it goes on in more
+used : (g : _) (c : In-Ok-Some g) → UsedUp c.args.self.now c.go_on.new.self c.args.loan.now c.go_on.new.loan g.start c.go_on.new.frames c.in-Ok-Some.waiting
+used g c = rw (c.in-Ok-Some.is, c.in-Ok-Some.field-0-is) at (came g (goal.at.In-Ok-Some g c).After-go_on)
 
 pub returns-in-Ok-Some : goal.returns-in-Ok-Some
 returns-in-Ok-Some g c =
-    let u = gone g (goal.at.returns-in-Ok-Some g c).Joined-is_plain c.go_on.new.self c.go_on.new.loan c.go_on.new.frames (Ok (Some c.in-Ok-Some.waiting)) (rw (c.again-walk.ensures, c.hand_on-rest.ensures.same, c.in-Ok-Some.is, c.in-Ok-Some.field-0-is) at c.go_on.ensures) in
-    ran_deeper c.args.self.now c.go_on.new.self c.go_deeper-answer.new.self c.args.loan.now c.go_on.new.loan c.go_deeper-answer.new.loan g.start _ _ u.same u.bytes c.go_on.new.frames c.go_deeper-answer.result u.less c.go_deeper-answer.ensures
+    let u = used g (goal.at.returns-in-Ok-Some g c).In-Ok-Some in
+    ran_deeper _ _ _ _ _ _ _ u.same u.bytes c.go_on.new.frames c.go_deeper-answer.result u.less c.go_deeper-answer.ensures
 
 pub go_deeper-answer-requires : goal.go_deeper-answer-requires
 go_deeper-answer-requires g c =
-    let u = gone g (goal.at.go_deeper-answer-requires g c).Joined-is_plain c.go_on.new.self c.go_on.new.loan c.go_on.new.frames (Ok (Some c.in-Ok-Some.waiting)) (rw (c.again-walk.ensures, c.hand_on-rest.ensures.same, c.in-Ok-Some.is, c.in-Ok-Some.field-0-is) at c.go_on.ensures) in
+    let u = used g (goal.at.go_deeper-answer-requires g c).In-Ok-Some in
     let limits = ap (λ (x : Walk). (x.limits).depth) u.same in
     let kept = c.go_on.auto.frames in
     let set = length-set c.args.frames.now 0 c.opened.result in
@@ -124,11 +122,10 @@ go_deeper-answer-requires g c =
 -- Where the root table is passed whole, or the walk stops in it.
 
 pub returns-in-Up : goal.returns-in-Up
-returns-in-Up g c =
-    over_from c.args.self.now c.open_table.new.self c.pass_root.new.self c.args.loan.now c.open_table.new.loan c.pass_root.new.loan g.start _ _ c.in-Ok.ensures.opened c.in-Ok.ensures.bytes c.in-Up.ensures
+returns-in-Up g c = over_from c.in-Ok.ensures.opened c.in-Ok.ensures.bytes c.in-Up.ensures
 
 pub returns-in-Halt : goal.returns-in-Halt
 returns-in-Halt g c =
     let e = c.in-Halt.ensures in
-    let stops = wrong_from c.args.self.now c.open_table.new.self c.pass_root.new.self c.args.loan.now c.open_table.new.loan c.pass_root.new.loan g.start _ _ c.in-Ok.ensures.opened c.in-Ok.ensures.bytes [] _ e.0 in
+    let stops = wrong_from c.in-Ok.ensures.opened c.in-Ok.ensures.bytes e.0 in
     record { rows = []; wrong = stops; along = λ _. rw e.1 (rw e.1 at stops.err) }

@@ -1,11 +1,8 @@
 use Rattle.std.proofs.Common.{◌≡◌, ◌+◌, ◌*◌, max, refl, ◌∙◌, ap, arith}
-use Rattle.fb_rules.specs.declared.offset_row.Row.{Row}
-use Rattle.fb_verify.specs.declared.stack.Walk.{Walk}
-use Rattle.fb_rules.specs.{Cost.head_reads, Fields.to_table, Order.after, Order.lead_failure, Plain.tested_by}
-use Rattle.fb_verify.specs.Stack.{IsAtTable}
+use Rattle.fb_rules.specs.{Cost.head_reads, Fields.to_table, Order.after, Order.lead_failure, Plain.tested_by, declared.offset_row.Row.Row}
+use Rattle.fb_verify.specs.{Stack.IsAtTable, declared.stack.Walk.Walk}
 use Rattle.fb_rules.proofs.{Budgets.fewer_reads, Few.head_few}
-use Rattle.fb_verify.proofs.{Flats.at_flat, Flats.word_tells, RowTurns.two, RowTurns.stays, RowTurns.word_halts}
-use Rattle.fb_verify.proofs.Turns.{at_child, down_falls}
+use Rattle.fb_verify.proofs.{Flats.at_flat, Flats.word_tells, RowTurns.two, RowTurns.stays, RowTurns.word_halts, Turns.at_child, Turns.down_falls}
 use Rattle.fb_verify.proofs.stack.Walk.take_word.Goals as goal
 
 pub returns-in-Some : goal.returns-in-Some

@@ -1,14 +1,12 @@
 use Rattle.std.proofs.Common.{◌≡◌, ℕ, ◌+◌, ◌<◌, ◌≤◌, List, take, get_or, refl, sym, ◌∙◌, ap, subst, arith}
 use Rattle.fb_bytes.specs.Word.{Lent}
-use Rattle.fb_verify.specs.declared.{scratch.Frame.Frame, stack.Walk.Walk}
-use Rattle.fb_verify.specs.declared.stack.Turn.{Turn}
-use Rattle.fb_verify.specs.declared.stack.Turn.TheVariants.{Down, Up, Slowly, Halt as Halted}
-use Rattle.fb_verify.specs.{Stack.blank, Stack.Origin, Stack.work, Turns.FramesTurned, Turns.IsBrim, Turns.Walked, Turns.WentOn}
+use Rattle.fb_verify.specs.{Stack.blank, Stack.Origin, Stack.work, Turns.FramesTurned, Turns.IsBrim, Turns.Walked, Turns.WentOn, declared.scratch.Frame.Frame}
+use Rattle.fb_verify.specs.declared.stack.{Walk.Walk, Turn.Turn, Turn.TheVariants.Down, Turn.TheVariants.Up, Turn.TheVariants.Slowly, Turn.TheVariants.Halt as Halted}
 use Rattle.fb_verify.proofs.Turning.{begins, over_from, wrong_from}
 use Rattle.fb_verify.proofs.stack.Walk.walk_by.Goals as goal
 
-module _ (w now then : Walk) (m been new : Lent) (s : Origin) (old frames past : List Frame) (waiting at left : ℕ)
-    (before : WentOn w now m been s old waiting frames at 0) (fewer : ℕ) (turn : WentOn now then been new s frames at past left fewer) where
+module _ {w now then : Walk} {m been new : Lent} {s : Origin} {old frames past : List Frame} {waiting at left fewer : ℕ}
+    (before : WentOn w now m been s old waiting frames at 0) (turn : WentOn now then been new s frames at past left fewer) where
   schema : now.schema ≡ w.schema
   schema = ap (λ (x : Walk). x.schema) before.same
 
@@ -34,33 +32,30 @@ module _ (w now then : Walk) (m been new : Lent) (s : Origin) (old frames past :
   }
 
 -- it stops, or goes on where it was
-ends_turn : (w now then : Walk) (m been new : Lent) (s : Origin) (old frames past : List Frame) (waiting at : ℕ) → WentOn w now m been s old waiting frames at 0
-    → (turn : Turn) → (turn ≡ Down → ⊥) → (turn ≡ Up → ⊥) → FramesTurned now then been new s frames past at turn → Walked w then m new s old waiting past at turn
-ends_turn w now then m been new s old frames past waiting at before Down down up h = absurd (down refl)
-ends_turn w now then m been new s old frames past waiting at before Up down up h = absurd (up refl)
-ends_turn w now then m been new s old frames past waiting at before Slowly down up h = goes_on w now then m been new s old frames past waiting at at before 0 h
-ends_turn w now then m been new s old frames past waiting at before Halted down up h = wrong_from w now then m been new s now.tables now.deepest before.same before.bytes past _ h
-
-one : 0 < 1
-one = omega arith
+ends_turn : {w now : Walk} {m been : Lent} {s : Origin} {old frames : List Frame} {waiting at : ℕ} → WentOn w now m been s old waiting frames at 0
+    → (then : Walk) (new : Lent) (past : List Frame) (turn : Turn) → (turn ≡ Down → ⊥) → (turn ≡ Up → ⊥) → FramesTurned now then been new s frames past at turn → Walked w then m new s old waiting past at turn
+ends_turn before _ _ _ Down down up h = absurd (down refl)
+ends_turn before _ _ _ Up down up h = absurd (up refl)
+ends_turn before _ _ _ Slowly down up h = goes_on before h
+ends_turn before _ _ _ Halted down up h = wrong_from before.same before.bytes h
 
 pub loop-has_below-smaller : goal.loop-has_below-smaller
 loop-has_below-smaller g c =
     let up = c.in-Up.ensures.above (omega (arith, c.if-at-eq0.false)) in
-    less _ _ _ _ _ _ _ _ _ _ _ _ _ c.loop-has_below.invariant.on 1 up.0 one
+    less c.loop-has_below.invariant.on up.0 (omega arith)
 
 pub loop-has_below-preserved : goal.loop-has_below-preserved
 loop-has_below-preserved g c =
     let up = c.in-Up.ensures.above (omega (arith, c.if-at-eq0.false)) in
     record {
-      on = goes_on _ _ _ _ _ _ _ _ _ _ _ _ _ c.loop-has_below.invariant.on 1 up.0;
+      on = goes_on c.loop-has_below.invariant.on up.0;
       short = up.1;
       below = λ more. omega (arith, c.loop-has_below.invariant.below more, c.turn.auto.frames);
     }
 
 pub loop-has_below-init : goal.loop-has_below-init
 loop-has_below-init g c = record {
-  on = begins c.args.self.now c.args.self.now c.args.reads.now c.args.reads.now g.start c.args.frames.now c.args.waiting.now c.requires.0 c.requires.1.0;
+  on = begins c.requires.0 c.requires.1.0;
   short = c.requires.1.1.0;
   below = λ more. rw c.depth-depth.ensures.value at (c.has_frame_below-has_below.ensures more);
 }
@@ -75,21 +70,17 @@ turn-requires g c =
     )
 
 pub loop-has_below-smaller-in-Down : goal.loop-has_below-smaller-in-Down
-loop-has_below-smaller-in-Down g c = less _ _ _ _ _ _ _ _ _ _ _ _ _ c.loop-has_below.invariant.on 1 c.in-Down.ensures.0 one
+loop-has_below-smaller-in-Down g c = less c.loop-has_below.invariant.on c.in-Down.ensures.0 (omega arith)
 
 pub loop-has_below-preserved-in-Down : goal.loop-has_below-preserved-in-Down
 loop-has_below-preserved-in-Down g c = record {
-  on = goes_on _ _ _ _ _ _ _ _ _ _ _ _ _ c.loop-has_below.invariant.on 1 c.in-Down.ensures.0;
+  on = goes_on c.loop-has_below.invariant.on c.in-Down.ensures.0;
   short = c.in-Down.ensures.1;
   below = λ more. rw c.depth-depth.ensures.value at (c.has_frame_below-has_below-in-Down.ensures more);
 }
 
 pub returns-then-at-eq0 : goal.returns-then-at-eq0
-returns-then-at-eq0 g c =
-    let i = c.loop-has_below.invariant.on in
-    over_from c.args.self.now c.loop-has_below.self c.turn.new.self c.args.reads.now c.loop-has_below.reads c.turn.new.reads g.start _ _ i.same i.bytes (c.in-Up.ensures.over c.if-at-eq0.true)
+returns-then-at-eq0 g c = over_from c.loop-has_below.invariant.on.same c.loop-has_below.invariant.on.bytes (c.in-Up.ensures.over c.if-at-eq0.true)
 
 pub returns-in_default : goal.returns-in_default
-returns-in_default g c =
-    ends_turn c.args.self.now c.loop-has_below.self c.turn.new.self c.args.reads.now c.loop-has_below.reads c.turn.new.reads g.start c.args.frames.now c.loop-has_below.frames c.turn.new.frames c.args.waiting.now c.loop-has_below.at
-    c.loop-has_below.invariant.on c.turn.result c.in_default.not-Down c.in_default.not-Up c.turn.ensures
+returns-in_default g c = ends_turn c.loop-has_below.invariant.on _ _ _ c.turn.result c.in_default.not-Down c.in_default.not-Up c.turn.ensures

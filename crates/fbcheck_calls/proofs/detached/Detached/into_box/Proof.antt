@@ -1,39 +1,23 @@
 -- What the pair owns is the box's again.
 use Rattle.std.proofs.Common.{◌≡◌, List, [], ◌∷◌, ◌++◌, refl, sym, ap, subst}
-use mir.Syntax.{Args, a_type, dcons, dnil}
-use mir.Val.{Val, vptr}
-use mir.MapTy.{inst_fn}
-use base.Logic.{SProp, ent, id⊢}
-use base.Fml.{ftrue, flft}
+use mir.{Syntax.Args, Syntax.a_type, Syntax.dcons, Syntax.dnil, Val.Val, Val.vptr, MapTy.inst_fn}
+use base.{Logic.SProp, Logic.ent, Logic.id⊢, Fml.ftrue, Fml.flft}
 use prog.Wp.{WpFn}
 use types.Kit.{‵, raw, ◌⊛◌, some, later, at_ret, ◌$◌, ◌∵◌, !, qed, by, move, keep, drop, split, split3, join, fsplit, fjoin, pick, suffices, use1, await, rewrite, feq_i}
 use types.Run.{stop, fld, of_opd, no_more, and_then, first, blocks, exec, returns, enter}
-use types.ByLocal.{alloc_all, pass_all, free_all, look_at, get, get_in, sets, lands_last, env}
-use types.Part.{sub, whole}
-use contract.Monad.{fact}
-use contract.BorrowLft.{◌⊑◌}
-use contract.Running.{tables}
-use denote.Exit.{no}
-use denote.RattleType.{RattleType, owns}
-use denote.Signature.{types_at, plain}
-use denote.RawPtr.{block_ptr}
-use denote.Steps.{nothing, only}
-use denote.Param.{param, layout, bounded}
-use denote.Param.Laws.{param_laws}
-use denote.Triple.Clauses.{Lasts, lasts}
-use denote.Triple.Spec.{triple_of}
-use denote.Triple.Call.{calls_at_last}
+use types.{ByLocal.alloc_all, ByLocal.pass_all, ByLocal.free_all, ByLocal.look_at, ByLocal.get, ByLocal.get_in, ByLocal.sets, ByLocal.lands_last, ByLocal.env, Part.sub, Part.whole}
+use contract.{Monad.fact, BorrowLft.◌⊑◌, Running.tables}
+use denote.{Exit.no, RattleType.RattleType, RattleType.owns, Signature.types_at, Signature.plain, RawPtr.block_ptr, Steps.nothing, Steps.only, Param.param, Param.layout, Param.bounded}
+use denote.{Param.Laws.param_laws, Triple.Clauses.Lasts, Triple.Clauses.lasts, Triple.Spec.triple_of, Triple.Call.calls_at_last}
 use denote.Triple.Walked.{Stays, stay_dropped, walk_of}
 use Rattle.core.proofs.{alloc.Calls.Goes-blank, alloc.Shapes.after, atomic.Steps.fm, cell.Inside.Good}
 use Rattle.std.proofs.raw_atomic.Walks.{proved_at, leaves}
 use Rattle.std_alloc.proofs.BoxSteps.Form as box
 use Rattle.std_alloc.proofs.{BoxSteps.Steps.box_out, BoxSteps.Steps.box_in, boxed.Box.from_raw.Met.met}
 use Rattle.std_alloc.specs.contracts.boxed.Box.from_raw as callee
-use Rattle.fbcheck_calls.proofs.Owned.{pair, Apart, apart_good, apart_out}
+use Rattle.fbcheck_calls.proofs.{Owned.pair, Owned.Apart, Owned.apart_good, Owned.apart_out, detached.Detached.into_box.Statement.statement}
 use Rattle.fbcheck_calls.proofs.detached.Detached.into_box.Code as code
-use Rattle.fbcheck_calls.proofs.detached.Detached.into_box.Statement.{statement}
-use Rattle.fbcheck_calls.specs.contracts.detached.Detached.into_box.{ended, clauses}
-use Rattle.fbcheck_calls.specs.contracts.detached.Detached.into_box.Key.{name as #self}
+use Rattle.fbcheck_calls.specs.contracts.detached.Detached.into_box.{ended, clauses, Key.name as #self}
 
 pub into_box_spec : {M : Type 1} → statement M
 into_box_spec 𝓤 𝓛 𝓜 𝓡 wired T A L LA g d dx dd allocator glue glued =

@@ -1,42 +1,24 @@
 -- The box gives up its pointer and its allocator, and what it owned is now the pair's.
 use Rattle.std.proofs.Common.{◌≡◌, List, [], ◌∷◌, ◌++◌, refl, sym, ap, ◌∙◌, subst}
-use mir.Syntax.{Args, a_type, dcons, dnil}
-use mir.Raw.{raw as bare}
-use mir.Val.{Val, vptr, vstruct, of_list}
-use mir.MapTy.{inst_fn}
-use base.Logic.{SProp, ent, emp, never, id⊢, fst∗}
-use base.Fml.{ftrue, fsep, flft}
+use mir.{Syntax.Args, Syntax.a_type, Syntax.dcons, Syntax.dnil, Raw.raw as bare, Val.Val, Val.vptr, Val.vstruct, Val.of_list, MapTy.inst_fn}
+use base.{Logic.SProp, Logic.ent, Logic.emp, Logic.never, Logic.id⊢, Logic.fst∗, Fml.ftrue, Fml.fsep, Fml.flft}
 use prog.Wp.{WpFn}
-use types.Logic.{sem}
-use types.Kit.{‵, raw, ◌⊛◌, some, later, ◌$◌, ◌∵◌, !, qed, by, move, keep, drop, split, split3, join, fsplit, fjoin, fpick, pick, suffices, use0, use1, await, rewrite, feq_l}
-use types.Run.{stop, fld, of_opd, no_more, and_then, returns, enter}
-use types.ByLocal.{alloc_all, pass_all, free_all, look_at, get, get_in, sets, lands_as}
-use types.Part.{agg, sub, whole}
-use contract.Monad.{fact, fact_i}
-use contract.Running.{tables}
-use denote.Exit.{no}
-use denote.RattleType.{RattleType, owns}
-use denote.Signature.{types_at, plain}
-use denote.Builtin.{RawPtr}
-use denote.RawPtr.{Ptr, block_ptr, null_ptr, ptr_val, in_a_block}
-use denote.Steps.{nothing, only, heard}
-use denote.Param.{param, layout, bounded}
-use denote.Param.Laws.{param_laws}
-use denote.Struct.Tuple.{Tuple}
-use denote.Triple.Spec.{triple_of}
-use denote.Triple.Call.{calls_at}
-use denote.Triple.Walked.{Stays, stay_dropped, walk_of}
+use types.{Logic.sem, Kit.‵, Kit.raw, Kit.◌⊛◌, Kit.some, Kit.later, Kit.◌$◌, Kit.◌∵◌, Kit.!, Kit.qed, Kit.by, Kit.move, Kit.keep, Kit.drop, Kit.split, Kit.split3, Kit.join, Kit.fsplit}
+use types.{Kit.fjoin, Kit.fpick, Kit.pick, Kit.suffices, Kit.use0, Kit.use1, Kit.await, Kit.rewrite, Kit.feq_l, Run.stop, Run.fld, Run.of_opd, Run.no_more, Run.and_then, Run.returns}
+use types.{Run.enter, ByLocal.alloc_all, ByLocal.pass_all, ByLocal.free_all, ByLocal.look_at, ByLocal.get, ByLocal.get_in, ByLocal.sets, ByLocal.lands_as, Part.agg, Part.sub, Part.whole}
+use contract.{Monad.fact, Monad.fact_i, Running.tables}
+use denote.{Exit.no, RattleType.RattleType, RattleType.owns, Signature.types_at, Signature.plain, Builtin.RawPtr}
+use denote.{RawPtr.Ptr, RawPtr.block_ptr, RawPtr.null_ptr, RawPtr.ptr_val, RawPtr.in_a_block, Steps.nothing, Steps.only, Steps.heard, Param.param, Param.layout, Param.bounded}
+use denote.{Param.Laws.param_laws, Struct.Tuple.Tuple, Triple.Spec.triple_of, Triple.Call.calls_at, Triple.Walked.Stays, Triple.Walked.stay_dropped, Triple.Walked.walk_of}
 use Rattle.core.proofs.{alloc.Calls.Goes-blank, alloc.Calls.handle_tells, atomic.Steps.fm}
 use Rattle.std.proofs.raw_atomic.Walks.{proved_at, leaves}
 use Rattle.std_alloc.proofs.BoxSteps.Form as box
 use Rattle.std_alloc.proofs.{BoxSteps.Steps.box_out, BoxSteps.Steps.box_in, boxed.Box.into_raw_with_allocator.Met.met}
 use Rattle.std_alloc.specs.Box.Ownership.{box_owns}
 use Rattle.std_alloc.specs.contracts.boxed.Box.into_raw_with_allocator as callee
-use Rattle.fbcheck_calls.proofs.Owned.{pair, apart_good, apart_in}
+use Rattle.fbcheck_calls.proofs.{Owned.pair, Owned.apart_good, Owned.apart_in, detached.Detached.of.Statement.statement}
 use Rattle.fbcheck_calls.proofs.detached.Detached.of.Code as code
-use Rattle.fbcheck_calls.proofs.detached.Detached.of.Statement.{statement}
-use Rattle.fbcheck_calls.specs.contracts.detached.Detached.of.{ended, clauses}
-use Rattle.fbcheck_calls.specs.contracts.detached.Detached.of.Key.{name as #self}
+use Rattle.fbcheck_calls.specs.contracts.detached.Detached.of.{ended, clauses, Key.name as #self}
 
 pub of_spec : {M : Type 1} → statement M
 of_spec 𝓤 𝓛 𝓜 𝓡 wired T A L LA g d dx dd allocator glue glued =

@@ -1,31 +1,20 @@
 -- A pointer that leads nowhere, which owns nothing.
 use Rattle.std.proofs.Common.{◌≡◌, List, [], ◌∷◌, ◌++◌, refl, sym, subst, None}
 use mir.Val.{Val}
-use base.Logic.{SProp, ent, emp, id⊢}
-use base.Fml.{ftrue}
+use base.{Logic.SProp, Logic.ent, Logic.emp, Logic.id⊢, Fml.ftrue}
 use prog.Wp.{WpFn}
 use types.Kit.{‵, raw, ◌⊛◌, ◌$◌, ◌∵◌, !, qed, by, move, keep, split, fsplit, fjoin, suffices, use0, use1, feq_i, feq_l}
-use types.Run.{no_more, and_then, returns, enter}
-use types.ByLocal.{alloc_all, pass_all, free_all, look_at, get, sets}
-use types.Part.{agg}
-use contract.Monad.{fact, fact_i}
-use contract.Running.{tables}
-use denote.Builtin.{RawPtr}
-use denote.Exit.{yes}
-use denote.RattleType.{owns}
-use denote.RawPtr.{Ptr, null_ptr, ptr_val}
-use denote.Signature.{types_at, plain}
-use denote.Steps.{nothing, heard}
+use types.{Run.no_more, Run.and_then, Run.returns, Run.enter, ByLocal.alloc_all, ByLocal.pass_all, ByLocal.free_all, ByLocal.look_at, ByLocal.get, ByLocal.sets, Part.agg}
+use contract.{Monad.fact, Monad.fact_i, Running.tables}
+use denote.{Builtin.RawPtr, Exit.yes, RattleType.owns, RawPtr.Ptr, RawPtr.null_ptr, RawPtr.ptr_val, Signature.types_at, Signature.plain, Steps.nothing, Steps.heard}
 use denote.Triple.Walked.{Stays, stay_dropped, walk_of, Goes-dropped}
 use Rattle.core.proofs.{alloc.Calls.handle_tells, atomic.Steps.Ptr-Good}
 use Rattle.std.proofs.raw_atomic.Walks.{proved_at, leaves}
 use Rattle.std.specs.contracts.impls.GlobalAllocator.TheImpl.{ghosts}
-use Rattle.fbcheck_calls.proofs.Owned.{pair, al, handle_good, handle_in, Z, LZ}
+use Rattle.fbcheck_calls.proofs.{Owned.pair, Owned.al, Owned.handle_good, Owned.handle_in, Owned.Z, Owned.LZ, handle.Handle.blank.Statement.statement}
 use Rattle.fbcheck_calls.proofs.handle.Handle.blank.Code as code
-use Rattle.fbcheck_calls.proofs.handle.Handle.blank.Statement.{statement}
 use Rattle.fbcheck_calls.specs.contracts.handle.Handle as handle
-use Rattle.fbcheck_calls.specs.contracts.handle.Handle.blank.{ended, clauses}
-use Rattle.fbcheck_calls.specs.contracts.handle.Handle.blank.Key.{name as #self}
+use Rattle.fbcheck_calls.specs.contracts.handle.Handle.blank.{ended, clauses, Key.name as #self}
 
 pub blank_spec : {M : Type 1} → statement M
 blank_spec 𝓤 𝓛 𝓜 𝓡 wired =

@@ -1,33 +1,23 @@
 -- The pointer is tested against null, as the right to free its block allows.
 use Rattle.std.proofs.Common.{◌≡◌, List, [], ◌∷◌, ◌++◌, refl, sym, ap, ◌∙◌, subst, lit<, Some, None, option_map}
 use mir.Val.{Val, vptr, vcons, vnil}
-use base.Logic.{SProp, ent, emp, id⊢}
-use base.Fml.{ftrue}
+use base.{Logic.SProp, Logic.ent, Logic.emp, Logic.id⊢, Fml.ftrue}
 use prog.Wp.{WpFn}
 use types.Kit.{‵, raw, ◌⊛◌, at_ret, ◌$◌, ◌∵◌, !, qed, by, move, keep, split, fsplit, fjoin, suffices, use0, use1}
-use types.Run.{stop, fld, lit, of_opd, bin, no_more, and_then, first, branches, exec, returns, enter}
-use types.ByLocal.{alloc_all, pass_all, free_all, look_at, get, get_in, sets, sets_last, env}
-use types.Part.{agg, sub, whole}
-use types.Match.{live}
-use contract.Monad.{fact, fact_i}
-use contract.Running.{tables}
-use denote.Exit.{yes}
-use denote.RattleType.{RattleType, owns}
-use denote.Signature.{types_at, type_at, plain}
-use denote.RawPtr.{Ptr, block_ptr, null_ptr, ptr_val, tests_null}
-use denote.Steps.{nothing}
-use denote.Param.{layout}
-use denote.Triple.Walked.{Stays, stay_dropped, walk_of, Goes-dropped}
+use types.{Run.stop, Run.fld, Run.lit, Run.of_opd, Run.bin, Run.no_more, Run.and_then, Run.first, Run.branches, Run.exec, Run.returns, Run.enter, ByLocal.alloc_all, ByLocal.pass_all}
+use types.{ByLocal.free_all, ByLocal.look_at, ByLocal.get, ByLocal.get_in, ByLocal.sets, ByLocal.sets_last, ByLocal.env, Part.agg, Part.sub, Part.whole, Match.live}
+use contract.{Monad.fact, Monad.fact_i, Running.tables}
+use denote.{Exit.yes, RattleType.RattleType, RattleType.owns, Signature.types_at, Signature.type_at, Signature.plain, RawPtr.Ptr, RawPtr.block_ptr, RawPtr.null_ptr, RawPtr.ptr_val}
+use denote.{RawPtr.tests_null, Steps.nothing, Param.layout, Triple.Walked.Stays, Triple.Walked.stay_dropped, Triple.Walked.walk_of, Triple.Walked.Goes-dropped}
 use Rattle.core.proofs.{alloc.Shapes.after, atomic.Steps.Ptr-Good, cell.Inside.Good, option.Made.Some-of, option.Made.none_of}
 use Rattle.std.proofs.raw_atomic.Walks.{proved_at, leaves}
 use Rattle.std.specs.contracts.impls.GlobalAllocator.TheImpl.{ghosts}
 use Rattle.std_alloc.proofs.ResultValues.{and_tt}
 use Rattle.fbcheck_calls.proofs.Owned.{pair, Apart, apart_good, apart_in, handle_good, handle_out, either_kept, Inside, Z, LZ}
-use Rattle.fbcheck_calls.proofs.handle.Handle.held.Code as code
 use Rattle.fbcheck_calls.proofs.handle.Handle.held.Statement.{statement}
+use Rattle.fbcheck_calls.proofs.handle.Handle.held.Code as code
 use Rattle.fbcheck_calls.specs.contracts.handle.Handle as handle
-use Rattle.fbcheck_calls.specs.contracts.handle.Handle.held.{ended, clauses}
-use Rattle.fbcheck_calls.specs.contracts.handle.Handle.held.Key.{name as #self}
+use Rattle.fbcheck_calls.specs.contracts.handle.Handle.held.{ended, clauses, Key.name as #self}
 
 pub held_spec : {M : Type 1} → statement M
 held_spec 𝓤 𝓛 𝓜 𝓡 wired =

@@ -1,28 +1,19 @@
 -- The pointer has another type, and the same memory.
 use Rattle.std.proofs.Common.{◌≡◌, List, [], ◌∷◌, ◌++◌, refl, sym, subst, Some}
 use mir.Val.{Val, vptr}
-use base.Logic.{SProp, ent, emp, id⊢}
-use base.Fml.{ftrue}
+use base.{Logic.SProp, Logic.ent, Logic.emp, Logic.id⊢, Fml.ftrue}
 use prog.Wp.{WpFn}
 use types.Kit.{‵, raw, ◌⊛◌, ◌$◌, ◌∵◌, !, qed, by, move, keep, split, fsplit, fjoin, suffices, use0}
 use types.Run.{stop, fld, of_opd, no_more, and_then, returns, enter}
-use types.ByLocal.{alloc_all, pass_all, free_all, look_at, get, get_in, sets}
-use types.Part.{agg, sub, whole}
-use contract.Monad.{fact, fact_i}
-use contract.Running.{tables}
-use denote.Exit.{no}
-use denote.RattleType.{RattleType, owns}
-use denote.Signature.{types_at, plain}
-use denote.RawPtr.{block_ptr}
-use denote.Steps.{nothing}
+use types.{ByLocal.alloc_all, ByLocal.pass_all, ByLocal.free_all, ByLocal.look_at, ByLocal.get, ByLocal.get_in, ByLocal.sets, Part.agg, Part.sub, Part.whole}
+use contract.{Monad.fact, Monad.fact_i, Running.tables}
+use denote.{Exit.no, RattleType.RattleType, RattleType.owns, Signature.types_at, Signature.plain, RawPtr.block_ptr, Steps.nothing}
 use denote.Triple.Walked.{Stays, stay_dropped, walk_of, Goes-dropped}
 use Rattle.std.proofs.raw_atomic.Walks.{proved_at, leaves}
 use Rattle.std.specs.contracts.impls.GlobalAllocator.TheImpl.{ghosts}
-use Rattle.fbcheck_calls.proofs.Owned.{pair, Apart, apart_good, apart_out, handle_in, Inside, Z, LZ}
+use Rattle.fbcheck_calls.proofs.{Owned.pair, Owned.Apart, Owned.apart_good, Owned.apart_out, Owned.handle_in, Owned.Inside, Owned.Z, Owned.LZ, handle.Handle.holding.Statement.statement}
 use Rattle.fbcheck_calls.proofs.handle.Handle.holding.Code as code
-use Rattle.fbcheck_calls.proofs.handle.Handle.holding.Statement.{statement}
-use Rattle.fbcheck_calls.specs.contracts.handle.Handle.holding.{ended, clauses}
-use Rattle.fbcheck_calls.specs.contracts.handle.Handle.holding.Key.{name as #self}
+use Rattle.fbcheck_calls.specs.contracts.handle.Handle.holding.{ended, clauses, Key.name as #self}
 
 pub holding_spec : {M : Type 1} → statement M
 holding_spec 𝓤 𝓛 𝓜 𝓡 wired =

@@ -1,33 +1,21 @@
 -- The pointer leads to what is lent, and it is lent for ever.
 use Rattle.std.proofs.Common.{◌≡◌, List, [], ◌∷◌, ◌++◌, refl, sym, ap, ◌∙◌, subst}
 use mir.Val.{Val, vptr, vstruct, vcons, vnil, of_list}
-use base.Logic.{SProp, ent, emp, never, id⊢, fst∗}
-use base.Fml.{ftrue}
+use base.{Logic.SProp, Logic.ent, Logic.emp, Logic.never, Logic.id⊢, Logic.fst∗, Fml.ftrue}
 use prog.Wp.{WpFn}
-use types.Logic.{sem}
-use types.Kit.{‵, raw, ◌⊛◌, at_ret, ◌$◌, ◌∵◌, !, qed, by, move, keep, drop, split, fsplit, fjoin, fpick, suffices, use0, feq_i, feq_l}
-use types.Run.{stop, fld, of_opd, addr, first, blocks, exec, returns, enter}
-use types.ByLocal.{alloc_all, pass_all, free_all, look_at, get, get_in, through, sets, sets_last, env}
-use types.Part.{sub, whole}
-use contract.Monad.{fact, fact_i}
-use contract.Running.{tables}
-use denote.Exit.{yes}
-use denote.RattleType.{RattleType, owns}
-use denote.Memory.{shared_of}
-use denote.Signature.{types_at, plain}
-use denote.RawPtr.{Ptr, ptr_val, in_a_block}
-use denote.Struct.Lending.{lent_at}
-use denote.Steps.{nothing}
-use denote.Opens.{hide}
-use denote.Triple.Walked.{Stays, stay_dropped, walk_of, Goes-dropped}
+use types.{Logic.sem, Kit.‵, Kit.raw, Kit.◌⊛◌, Kit.at_ret, Kit.◌$◌, Kit.◌∵◌, Kit.!, Kit.qed, Kit.by, Kit.move, Kit.keep, Kit.drop, Kit.split, Kit.fsplit, Kit.fjoin, Kit.fpick, Kit.suffices}
+use types.{Kit.use0, Kit.feq_i, Kit.feq_l, Run.stop, Run.fld, Run.of_opd, Run.addr, Run.first, Run.blocks, Run.exec, Run.returns, Run.enter, ByLocal.alloc_all, ByLocal.pass_all}
+use types.{ByLocal.free_all, ByLocal.look_at, ByLocal.get, ByLocal.get_in, ByLocal.through, ByLocal.sets, ByLocal.sets_last, ByLocal.env, Part.sub, Part.whole}
+use contract.{Monad.fact, Monad.fact_i, Running.tables}
+use denote.{Exit.yes, RattleType.RattleType, RattleType.owns, Memory.shared_of, Signature.types_at, Signature.plain, RawPtr.Ptr, RawPtr.ptr_val, RawPtr.in_a_block, Struct.Lending.lent_at}
+use denote.{Steps.nothing, Opens.hide, Triple.Walked.Stays, Triple.Walked.stay_dropped, Triple.Walked.walk_of, Triple.Walked.Goes-dropped}
 use Rattle.core.proofs.alloc.Shapes.{after}
 use Rattle.std.proofs.raw_atomic.Walks.{proved_at, leaves}
 use Rattle.fbcheck_calls.proofs.shared.Shared.held.Code as code
 use Rattle.fbcheck_calls.proofs.shared.Shared.held.Statement.{statement}
 use Rattle.fbcheck_calls.specs.contracts.shared.Shared as shared
 use Rattle.fbcheck_calls.specs.contracts.held.Held as inner
-use Rattle.fbcheck_calls.specs.contracts.shared.Shared.held.{ended, clauses}
-use Rattle.fbcheck_calls.specs.contracts.shared.Shared.held.Key.{name as #self}
+use Rattle.fbcheck_calls.specs.contracts.shared.Shared.held.{ended, clauses, Key.name as #self}
 
 pub held_spec : {M : Type 1} → statement M
 held_spec 𝓤 𝓛 𝓜 𝓡 wired =

@@ -1,5 +1,0 @@
-use Rattle.std.proofs.Common.{rules}
-use Rattle.fb_run.proofs.checker.skip.Goals as goal
-
-pub returns-in-Apart : goal.returns-in-Apart
-returns-in-Apart c = search rules

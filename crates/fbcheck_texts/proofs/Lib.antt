@@ -1,4 +1,0 @@
-pub mod FaultJsonLemmas
-mod HintLemmas
-mod TextLemmas
-pub mod ShownTexts

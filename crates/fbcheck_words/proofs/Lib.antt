@@ -1,3 +1,0 @@
-mod DefaultLemmas
-mod ProgramLemmas
-mod WordsLemmas
