@@ -1,12 +1,15 @@
 -- Fields that lead to no table are passed by their steps.
-use Rattle.std.proofs.Common.{◌≡◌, ℕ, zero, suc, ◌+◌, ◌≤◌, ◌⊎◌, inl, inr, Bool, true, false, List, [], ◌∷◌, map, refl, sym, ◌∙◌, ap, subst, arith, Option, Some, None}
+use Rattle.std.proofs.Common.{◌≡◌, ℕ, zero, suc, ◌+◌, ◌≤◌, ◌⊎◌, inl, inr, Bool, true, false, List, [], ◌∷◌, map, get_or, refl, sym, ◌∙◌, ap, subst, arith, Option, Some, None}
 use Rattle.std.specs.Prelude.{slice_get}
 use Rattle.std.proofs.lemmas.Bool.Decides.{nat_tests}
 use Rattle.fb_schema.proofs.Numbers.{both_true}
 use Rattle.fb_schema.specs.declared.{kinds.Kind.Kind, views.Act.Act, views.Step.Step, kinds.Kind.TheVariants.Scalar, kinds.Kind.TheVariants.Text, kinds.Kind.TheVariants.Struct}
 use Rattle.fb_schema.specs.declared.{kinds.Kind.TheVariants.Table, kinds.Kind.TheVariants.Scalars, kinds.Kind.TheVariants.Structs, views.Act.TheVariants.Other}
 use Rattle.fb_schema.specs.{Rows.Rows, Live.Live, Served.IsAlignment, Served.KindHolds, Steps.inline_act, Steps.act_of, Steps.bit_of, Steps.bits_of, Steps.is_plain_act}
-use Rattle.fb_schema.specs.Steps.{are_plain, step_of}
+use Rattle.fb_schema.specs.Steps.{are_plain, are_small, have_acts, is_small_act, step_of}
+use Rattle.std.specs.List.{All}
+use Rattle.std.proofs.lemmas.Option.{slice_get-get_or}
+use Rattle.fb_rules.specs.Alike.{IsSmallStep}
 use Rattle.fb_rules.specs.{declared.checks.Checks.Checks, Places.field_place, Fields.to_string, Fields.entry, Fields.entries, Cost.slot_reads, Cost.own_reads, Order.Failure}
 use Rattle.fb_rules.specs.Order.{after, ◌▷◌, table_failure, inline_field_failure, lead_failure, own_failure, element_failure}
 use Rattle.fb_rules.specs.Plain.{step_failure, step_reads, IsStep, HasBit, plain_failure, plain_reads}
@@ -18,14 +21,29 @@ step_at [] i s e = absurd (let w : None ≡ Some s = e in cc)
 step_at (f ∷ fs) zero s e = (f, refl, (let w : step_of f ≡ s = cc in sym w))
 step_at (f ∷ fs) (suc i) s e = step_at fs i s e
 
+-- What is done at all of these fields passes a test, and so it does at each.
+pub has_act : (p : Act → Bool) (fs : List Live) (i : ℕ) (f : Live) → have_acts p fs ≡ true → slice_get fs i ≡ Some f → p (act_of f f.kind) ≡ true
+has_act p [] i f all e = absurd (let w : None ≡ Some f = e in cc)
+has_act p (g ∷ fs) zero f all e =
+    let same : g ≡ f = cc in
+    sym (ap (λ (z : Live). p (act_of z z.kind)) same) ∙ (both_true (p (act_of g g.kind)) (have_acts p fs) all).0
+has_act p (g ∷ fs) (suc i) f all e = has_act p fs i f (both_true (p (act_of g g.kind)) (have_acts p fs) all).1 e
+
 -- Where no field leads to a table, none does.
 pub never_leads : (fs : List Live) (i : ℕ) (f : Live) → are_plain fs ≡ true → slice_get fs i ≡ Some f → act_of f f.kind ≡ Other → ⊥
-never_leads [] i f p e a = absurd (let w : None ≡ Some f = e in cc)
-never_leads (g ∷ fs) zero f p e a =
-    let same : g ≡ f = cc in
-    let no = (both_true (is_plain_act (act_of g g.kind)) (are_plain fs) p).0 in
-    let clash : true ≡ false = sym no ∙ ap (λ (z : Live). is_plain_act (act_of z z.kind)) same ∙ ap is_plain_act a in cc
-never_leads (g ∷ fs) (suc i) f p e a = never_leads fs i f (both_true (is_plain_act (act_of g g.kind)) (are_plain fs) p).1 e a
+never_leads fs i f plain e a = let clash : true ≡ false = sym (has_act is_plain_act fs i f plain e) ∙ ap is_plain_act a in cc
+
+-- Where all are small, each has the step of one, and none is required.
+small_act : (a : Act) (s : Step) → s.act ≡ a → is_small_act a ≡ true → IsSmallStep s
+small_act a s is h = grind (arith, is, h)
+
+pub small_at : (fs : List Live) (i : ℕ) (f : Live) → are_small fs ≡ true → slice_get fs i ≡ Some f → IsSmallStep (step_of f)
+small_at fs i f small e = small_act (act_of f f.kind) (step_of f) refl (has_act is_small_act fs i f small e)
+
+pub small_steps : (fs : List Live) → are_small fs ≡ true → All IsSmallStep (map step_of fs)
+small_steps fs small i d lt =
+    let s = step_at fs i (get_or (map step_of fs) i d) (slice_get-get_or (map step_of fs) i d lt) in
+    subst IsSmallStep (sym s.2) (small_at fs i s.0 small s.1)
 
 -- it is asked for its own size and alignment
 inline_step : (c : Checks) (b : List ℕ) (t p : ℕ) (s : Step) → step_failure c b t s p (inline_act s.required s.size s.align) ≡ inline_field_failure c b t p s.size s.align

@@ -1,10 +1,7 @@
 // Tables of a row that share a vtable: what tells of one that another holds as it does.
 
 ghost use Rattle.std.specs.Prelude.{◌≡◌, true};
-ghost use Rattle.std.specs.List.{All};
-ghost use Rattle.fb_rules.specs.{Alike.IsSmallStep, Alike.IsLike, declared.passed.Sizes.TheVariants.Small};
-
-use fb_schema::{Act, Step};
+ghost use Rattle.fb_rules.specs.{Alike.IsLike, declared.passed.Sizes.TheVariants.Small};
 
 /// The sizes of the fields of a row's tables.
 #[derive(Clone, Copy)]
@@ -55,25 +52,4 @@ impl Passed {
             Sizes::Any => false,
         }
     }
-}
-
-/// Of tables with more fields it isn't asked whether these are small: a row pays for the question, whatever its reads.
-const MOST_FIELDS: usize = 32;
-
-/// The sizes of the fields of these steps.
-#[inline(always)]
-pub fn sizes_of(steps: &[Step]) -> Sizes
-    ensures { result ≡ Small → All IsSmallStep steps.now }
-{
-    if steps.len() > MOST_FIELDS {
-        return Sizes::Any;
-    }
-    let mut rest = steps;
-    while let Some((step, more)) = rest.split_first() {
-        if !matches!(step.act, Act::One | Act::Two | Act::Four | Act::Eight) {
-            return Sizes::Any;
-        }
-        rest = more;
-    }
-    Sizes::Small
 }

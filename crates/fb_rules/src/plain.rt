@@ -11,6 +11,7 @@ ghost use Rattle.fb_rules.specs.{declared.fault.Reason.TheVariants.OutOfBuffer, 
 ghost use Rattle.fb_rules.specs.Order.{offset_failure, string_failure, vector_failure, inline_failure, inline_field_failure, vector_field_failure, lead_failure};
 ghost use Rattle.fb_rules.specs.{declared.plain.Standing.TheVariants.Known, Plain.StandsAt, Plain.tested_by, Plain.vtable_failure, Plain.vtable_reads, Plain.FindsVtable};
 ghost use Rattle.fb_rules.specs.Plain.{IsTested, IsSmall, place_from, IsStep, HasBit, IsCame, Filled, Stepped};
+ghost use Rattle.fb_rules.specs.{Alike.IsSmallStep, declared.plain.Came.TheVariants.ToEnd, declared.plain.Came.TheVariants.ToField};
 
 use crate::checks::Checks;
 use crate::fault::Reason;
@@ -625,4 +626,36 @@ pub fn pass_step(
     }
     *at += distance;
     pass_field(reads, checks, table, step, at)
+}
+
+/// The same of a field that is small, where the end of its table isn't checked, so that nothing more is asked of the
+/// step than its size. Behind the vtable lies also the step behind a table's last one.
+#[inline(always)]
+#[tactic(auto, using(std::proofs::lemmas::Bool::Decides::nat_tests), unfolding(crate::specs::Plain::plain_failure, crate::specs::Plain::plain_reads, crate::specs::Places::field_place))]
+pub fn pass_small_step(
+    reads: &mut Reads<'_>,
+    checks: Checks,
+    table: Table,
+    step: &Step,
+    at: &mut u64,
+) -> Came
+    requires few { reads.old.count < reads.old.base + 2 ^ 59 }
+    requires small { IsSmallStep step.now }
+    requires step { IsStep step.now (step.now).act }
+    requires bit { HasBit step.now (step.now).act }
+    requires even { (step.now).slot % 2 ≡ 0 }
+    requires near { table.at < 2 ^ 33 }
+    requires head { IsHead checks reads.old.bytes table.at table.head }
+    requires cut { checks.inline_size ≡ false }
+    ensures stepped { Stepped checks reads.old reads.new table.at step.now at.new result }
+    ensures ends { (step.now).slot ≡ 65534 → result ≡ ToEnd }
+    ensures leads { result ≡ ToField → ⊥ }
+{
+    *at = table.at;
+    if step.slot >= table.head.size {
+        return Came::ToEnd;
+    }
+    let distance = u64::from(reads.u16_at(table.head.vtable + u64::from(step.slot)));
+    *at += distance;
+    pass_small(reads, checks, table, *at, step.bit, distance)
 }

@@ -1,8 +1,8 @@
 -- The steps by which the index of a schema is made.
 use Rattle.std.proofs.Common.{◌≡◌, ℕ, zero, suc, ◌+◌, ◌<◌, ◌≤◌, ◌⊎◌, inl, inr, Bool, false, List, [], ◌∷◌, ◌++◌, length, get_or, slice_get, take, map, max, Some, None, Result, Ok, Err, OnOk, IfOk, IsOkAnd, refl, sym, ◌∙◌, ap, subst, arith, if◌then◌else◌}
 use Rattle.std.proofs.lemmas.{List.map-append, List.get_or-map, List.length_push, List.map_more, Option.slice_get-get_or, Option.slice_get_within, Grind.take_at_read}
-use Rattle.fb_schema.specs.{declared.rows.FieldRow.FieldRow, Live.Live, Live.AreSpaced, Live.live_rows, Live.widest_of, Index.AreMatched, Steps.act_of, Steps.is_plain_act}
-use Rattle.fb_schema.specs.{Steps.are_plain, Rows.Object, Rows.field_of}
+use Rattle.fb_schema.specs.{declared.rows.FieldRow.FieldRow, Live.Live, Live.AreSpaced, Live.live_rows, Live.widest_of, Index.AreMatched, Steps.act_of, Steps.have_acts, declared.views.Act.Act}
+use Rattle.fb_schema.specs.{Rows.Object, Rows.field_of}
 use Rattle.fb_schema.proofs.{Numbers.get_or_default, WalkLemmas.mapped_at}
 
 -- what holds where a call was granted
@@ -72,13 +72,13 @@ pub few_step : (live : List FieldRow) (i : ℕ) (d : FieldRow) → AreSpaced (ma
 few_step live i d spaced lt range = let least = spaced.at i (field_of (get_or live i d)) (mapped_at field_of live i (get_or live i d) (slice_get-get_or live i d lt)) in omega (arith, least, range)
 
 -- one field more, behind the others
-plain_more : (fs : List Live) (f : Live) (b : Bool) → is_plain_act (act_of f f.kind) ≡ b → are_plain (fs ++ f ∷ []) ≡ if b then are_plain fs else false
-plain_more [] f b e = grind (arith, e)
-plain_more (g ∷ gs) f b e = grind (arith, plain_more gs f b e)
+acts_more : (p : Act → Bool) (fs : List Live) (f : Live) (b : Bool) → p (act_of f f.kind) ≡ b → have_acts p (fs ++ f ∷ []) ≡ if b then have_acts p fs else false
+acts_more p [] f b e = grind (arith, e)
+acts_more p (g ∷ gs) f b e = grind (arith, acts_more p gs f b e)
 
-pub plain_step : {X : Type 0} (v : X → Live) (xs : List X) (i : ℕ) (d : X) (b : Bool) → i < length xs → is_plain_act (act_of (v (get_or xs i d)) (v (get_or xs i d)).kind) ≡ b
-    → are_plain (map v (take (i + 1) xs)) ≡ if b then are_plain (map v (take i xs)) else false
-plain_step v xs i d b lt e =
+pub acts_step : {X : Type 0} (p : Act → Bool) (v : X → Live) (xs : List X) (i : ℕ) (d : X) (b : Bool) → i < length xs → p (act_of (v (get_or xs i d)) (v (get_or xs i d)).kind) ≡ b
+    → have_acts p (map v (take (i + 1) xs)) ≡ if b then have_acts p (map v (take i xs)) else false
+acts_step p v xs i d b lt e =
     let x = get_or xs i d in
-    ap (λ zs. are_plain (map v zs)) (take_at_read xs i d lt).1 ∙ ap are_plain (map-append v (take i xs) (x ∷ []))
-    ∙ plain_more (map v (take i xs)) (v x) b e
+    ap (λ zs. have_acts p (map v zs)) (take_at_read xs i d lt).1 ∙ ap (have_acts p) (map-append v (take i xs) (x ∷ []))
+    ∙ acts_more p (map v (take i xs)) (v x) b e

@@ -1,9 +1,9 @@
 -- What the look-ups read.
 use Rattle.std.proofs.Common.{◌≡◌, Bool, false, true, refl, ℕ, ℤ, pos, negsuc, Bor, Option, None, option_map, zero, suc, ◌<◌, ◌≤◌, ◌^◌, List, [], ◌∷◌, length, get_or, slice_get, map, Some, IsTrue, sym, subst, ◌∙◌, ap, arith}
 use Rattle.std.proofs.lemmas.{Option.slice_get-map, Option.slice_get_past, List.length-map}
-use Rattle.fb_schema.specs.{declared.views.Step.Step, declared.flat.FlatRows.FlatRows, declared.flat.RowLists.RowLists, FlatRows.object_in, FlatRows.enum_in, FlatRows.flat_rows}
+use Rattle.fb_schema.specs.{declared.index.Sorts.Sorts, declared.views.Step.Step, declared.flat.FlatRows.FlatRows, declared.flat.RowLists.RowLists, FlatRows.object_in, FlatRows.enum_in, FlatRows.flat_rows}
 use Rattle.fb_schema.specs.{FlatRows.borrowed_rows, Live.Live, Live.live_of, Live.live_in, Live.live_rows, Live.live_fields, Live.widest, Live.widest_of, Rows.Rows, Rows.Object}
-use Rattle.fb_schema.specs.{Rows.entry_at, Rows.is_table, Rows.is_some_table, Rows.Enum, Rows.is_union, Rows.is_some_union, Steps.step_of, Steps.are_plain, Steps.is_plain}
+use Rattle.fb_schema.specs.{Rows.entry_at, Rows.is_table, Rows.is_some_table, Rows.Enum, Rows.is_union, Rows.is_some_union, Steps.chain_of, Steps.sorts_of}
 use Rattle.fb_schema.proofs.Kept.{kept_fewer}
 
 -- rows that are lent are the same
@@ -17,20 +17,20 @@ read_made g xs n y e = grind (arith, slice_get-map (λ x. g (Some x)) xs n, e)
 pub live_read : (rows : Rows) (objects : List Object) (lists : List (List Live)) (n : ℕ) (y : List Live) → lists ≡ map (λ o. live_in rows (Some o)) objects → slice_get lists n ≡ Some y → y ≡ live_in rows (slice_get objects n)
 live_read rows objects lists n y e at = read_made (live_in rows) objects n y (ap (λ ls. slice_get ls n) (sym e) ∙ at)
 
--- the steps of a table's live fields
-pub steps_read : (rows : Rows) (lists : List (List Step)) (n : ℕ) (y : List Step) → lists ≡ map (λ o. map step_of (live_in rows (Some o))) rows.objects → slice_get lists n ≡ Some y → y ≡ map step_of (live_fields rows n)
+-- the steps of a table's live fields, and the one behind them
+pub chain_read : (rows : Rows) (lists : List (List Step)) (n : ℕ) (y : List Step) → lists ≡ map (λ o. chain_of (live_in rows (Some o))) rows.objects → slice_get lists n ≡ Some y → y ≡ chain_of (live_fields rows n)
 unfolding live_fields
-steps_read rows lists n y e at = read_made (λ o. map step_of (live_in rows o)) rows.objects n y (ap (λ ls. slice_get ls n) (sym e) ∙ at)
+chain_read rows lists n y e at = read_made (λ o. chain_of (live_in rows o)) rows.objects n y (ap (λ ls. slice_get ls n) (sym e) ∙ at)
 
-read_plain : (rows : Rows) (objects : List Object) (n : ℕ) (x : Bool) → IsTrue (is_some_table (slice_get objects n)) → x ≡ get_or (map (λ o. are_plain (live_in rows (Some o))) objects) n x → x ≡ are_plain (live_in rows (slice_get objects n))
-read_plain rows [] n x t h = absurd cc
-read_plain rows (o ∷ os) zero x t h = h
-read_plain rows (o ∷ os) (suc n) x t h = read_plain rows os n x t h
+read_sorts : (rows : Rows) (objects : List Object) (n : ℕ) (x : Sorts) → IsTrue (is_some_table (slice_get objects n)) → x ≡ get_or (map (λ o. sorts_of (live_in rows (Some o))) objects) n x → x ≡ sorts_of (live_in rows (slice_get objects n))
+read_sorts rows [] n x t h = absurd cc
+read_sorts rows (o ∷ os) zero x t h = h
+read_sorts rows (o ∷ os) (suc n) x t h = read_sorts rows os n x t h
 
--- whether the index tells that they are plain
-pub plain_read : (rows : Rows) (plain : List Bool) (n : ℕ) (x : Bool) → plain ≡ map (λ o. are_plain (live_in rows (Some o))) rows.objects → IsTrue (is_table rows n) → x ≡ get_or plain n x → x ≡ is_plain rows n
+-- what the index tells of all of them
+pub sorts_read : (rows : Rows) (sorts : List Sorts) (n : ℕ) (x : Sorts) → sorts ≡ map (λ o. sorts_of (live_in rows (Some o))) rows.objects → IsTrue (is_table rows n) → x ≡ get_or sorts n x → x ≡ sorts_of (live_fields rows n)
 unfolding live_fields
-plain_read rows plain n x h t at = read_plain rows rows.objects n x t (at ∙ ap (λ xs. get_or xs n x) h)
+sorts_read rows sorts n x h t at = read_sorts rows rows.objects n x t (at ∙ ap (λ xs. get_or xs n x) h)
 
 count_within : (rows : Rows) (objects : List Object) (n : ℕ) → length (live_in rows (slice_get objects n)) ≤ widest_of objects
 count_within rows [] n = omega arith

@@ -1,6 +1,6 @@
 -- What a reader of buffers does at each live field of a table.
-use Rattle.std.specs.Prelude.{ℕ, ◌==◌, ◌&&◌, if◌then◌else◌, Bool, true, false, List, [], ◌∷◌}
-use Rattle.fb_schema.specs.declared.{kinds.Kind.Kind, views.Act.Act, views.Step.Step}
+use Rattle.std.specs.Prelude.{ℕ, ◌==◌, ◌&&◌, if◌then◌else◌, Bool, true, false, List, [], ◌∷◌, ◌++◌, map}
+use Rattle.fb_schema.specs.declared.{index.Sorts.Sorts, kinds.Kind.Kind, views.Act.Act, views.Step.Step}
 use Rattle.fb_schema.specs.declared.kinds.Kind.TheVariants.{Scalar, Text, Struct, Table, Union, Scalars, Texts, Structs, Tables, Unions}
 use Rattle.fb_schema.specs.declared.views.Act.TheVariants.{One, Two, Four, Eight, Inline, Text as AText, Vector, Other}
 use Rattle.fb_schema.specs.{Live.Live, Live.live_fields, Rows.Rows}
@@ -57,11 +57,43 @@ abbrev pub is_plain_act : Act → Bool
 is_plain_act Other = false
 is_plain_act _ = true
 
+-- what is done at each of these fields passes a test
+abbrev pub have_acts : (Act → Bool) → List Live → Bool
+have_acts p [] = true
+have_acts p (f ∷ fs) = p (act_of f f.kind) && have_acts p fs
+
 -- none of these fields leads to a table
 abbrev pub are_plain : List Live → Bool
-are_plain [] = true
-are_plain (f ∷ fs) = is_plain_act (act_of f f.kind) && are_plain fs
+are_plain fs = have_acts is_plain_act fs
 
 -- no live field of table n leads to a table
 abbrev pub is_plain : Rows → ℕ → Bool
 is_plain rows n = are_plain (live_fields rows n)
+
+-- what is done at a scalar or struct of 1, 2, 4 or 8 bytes, aligned to as many, that may be absent
+abbrev pub is_small_act : Act → Bool
+is_small_act One = true
+is_small_act Two = true
+is_small_act Four = true
+is_small_act Eight = true
+is_small_act _ = false
+
+-- these fields are all of that sort
+abbrev pub are_small : List Live → Bool
+are_small fs = have_acts is_small_act fs
+
+-- and so are those of table n
+abbrev pub is_small : Rows → ℕ → Bool
+is_small rows n = are_small (live_fields rows n)
+
+-- what holds of all of these fields
+abbrev pub sorts_of : List Live → Sorts
+sorts_of fs = record { plain = are_plain fs; small = are_small fs }
+
+-- the step behind the last one: its slot lies behind each vtable
+abbrev pub end_step : Step
+end_step = record { act = One; required = false; slot = 65534; bit = 1; size = 1; align = 1 }
+
+-- the steps of these fields, with that one behind them
+abbrev pub chain_of : List Live → List Step
+chain_of fs = map step_of fs ++ end_step ∷ []

@@ -15,7 +15,7 @@ use crate::legal::legal;
 use crate::lists::Lists;
 use crate::live::table_views;
 use crate::rows::MemberRow;
-use crate::steps::{are_plain, field_steps};
+use crate::steps::{field_steps, sorts_of};
 use crate::targets::{ByValue, put_targets};
 use crate::views::FieldView;
 use std::alloc::{AllocError, Allocator};
@@ -70,7 +70,7 @@ impl<'n, A: Allocator + Copy> LiveIndex<'n, A> {
             fields: Lists::new(alloc),
             names: Lists::new(alloc),
             steps: Lists::new(alloc),
-            plain: Vec::new(alloc),
+            sorts: Vec::new(alloc),
             next_required: Lists::new(alloc),
             widest: 0,
         }
@@ -82,8 +82,8 @@ impl<'n, A: Allocator + Copy> LiveIndex<'n, A> {
     {
         self.fields.reserve(objects, fields)?;
         self.names.reserve(objects, fields)?;
-        self.steps.reserve(objects, fields)?;
-        self.plain.reserve_exact(objects)?;
+        self.steps.reserve(objects, fields.saturating_add(objects))?;
+        self.sorts.reserve_exact(objects)?;
         self.next_required.reserve(objects, fields)
     }
 
@@ -94,7 +94,7 @@ impl<'n, A: Allocator + Copy> LiveIndex<'n, A> {
             → length fields.now ≡ length (live_rows o) → OnOk result (IsLiveIndex rows (all ++ o ∷ []) self.new) }
     {
         self.widest = self.widest.max(fields.len() as u32);
-        self.plain.push(are_plain(fields))?;
+        self.sorts.push(sorts_of(fields))?;
         self.names.push_made(in_order(alloc, fields))?;
         self.steps.push_made(field_steps(alloc, fields))?;
         self.next_required.push_made(next_required(alloc, fields))?;

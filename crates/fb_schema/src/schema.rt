@@ -5,7 +5,7 @@ ghost use Rattle.std.specs.Prelude.{position, ℕ, ◌≤◌, ◌^◌, find, pos
 ghost use Rattle.std.specs.{Ordering.int_eq, Str.bytes_eq};
 ghost use Rattle.fb_schema.specs.{declared.rows.FieldRow.FieldRow, Rows.AreFew, Rows.rows_of, Rows.is_table, Rows.is_union, Rows.table_named, Rows.field_of, Rows.member_of_row};
 ghost use Rattle.fb_schema.specs.{Heads.head_of, Heads.head_of_view, Members.member_of, Members.member_named, Members.member_name, Demands.IsLegal, Demands.Refuses, Parts.part_at};
-ghost use Rattle.fb_schema.specs.{Parts.part_named, Parts.parts_of, Served.IsServed, Served.HaveKinds, Steps.is_plain, Steps.step_of, Targets.target_at, Targets.target_of};
+ghost use Rattle.fb_schema.specs.{Parts.part_named, Parts.parts_of, Served.IsServed, Served.HaveKinds, Steps.is_plain, Steps.is_small, Steps.step_of, Steps.chain_of, Targets.target_at, Targets.target_of};
 ghost use Rattle.fb_schema.specs.Live.{live_fields, live_of_view, field_named, next_required, widest};
 
 use crate::fault::SchemaFault;
@@ -120,14 +120,25 @@ impl<'n, A: Allocator + Copy> Schema<'n, A> {
         self.index.live.fields.get(n as usize)
     }
 
-    /// The steps of a table's live fields: one for each, in rising slot.
+    /// The steps of a table's live fields: one for each, in rising slot; and [`Step::END`] behind them.
+    #[inline(always)]
+    pub fn chain_of(&self, n: u32) -> &[Step]
+        requires { IsTrue (is_table self.now n) }
+        ensures value { result.now ≡ chain_of (live_fields self.now n) }
+        ensures few { length result.now ≤ 2 ^ 32 }
+    {
+        self.index.live.steps.get(n as usize)
+    }
+
+    /// The steps of a table's live fields.
     #[inline(always)]
     pub fn steps_of(&self, n: u32) -> &[Step]
         requires { IsTrue (is_table self.now n) }
         ensures value { result.now ≡ map step_of (live_fields self.now n) }
         ensures few { length result.now < 2 ^ 32 }
     {
-        self.index.live.steps.get(n as usize)
+        let chain = self.chain_of(n);
+        &chain[..chain.len() - 1]
     }
 
     /// The object of this name.
@@ -211,7 +222,17 @@ impl<'n, A: Allocator + Copy> Schema<'n, A> {
         requires { IsTrue (is_table self.now n) }
         ensures { result ≡ is_plain self.now n }
     {
-        self.index.live.plain[n as usize]
+        self.index.live.sorts[n as usize].plain
+    }
+
+    /// Whether all live fields of a table are scalars and structs of one, two, four or eight bytes, aligned to as many,
+    /// that may be absent.
+    #[inline(always)]
+    pub fn is_small(&self, n: u32) -> bool
+        requires { IsTrue (is_table self.now n) }
+        ensures { result ≡ is_small self.now n }
+    {
+        self.index.live.sorts[n as usize].small
     }
 
     /// The place of the next live field of a table that is required, from place `i` on, none where none is: so fields

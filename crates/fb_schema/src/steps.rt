@@ -1,8 +1,9 @@
 // The live fields of a table in one flat row, for a reader that passes many of them.
 
 ghost use Rattle.std.specs.Prelude.{◌≡◌, map, IfOk};
-ghost use Rattle.fb_schema.specs.{Live.live_of_view, Steps.act_of, Steps.bit_of, Steps.is_plain_act, Steps.are_plain, Steps.step_of};
+ghost use Rattle.fb_schema.specs.{Live.live_of_view, Steps.act_of, Steps.bit_of, Steps.is_plain_act, Steps.is_small_act, Steps.sorts_of, Steps.step_of, Steps.chain_of};
 
+use crate::index::Sorts;
 use crate::kinds::Kind;
 use crate::views::{Act, FieldView, Step};
 use std::alloc::{AllocError, Allocator};
@@ -40,17 +41,30 @@ fn is_plain_act(act: Act) -> bool
     !matches!(act, Act::Other)
 }
 
-/// Whether none of these fields leads to a table.
-pub fn are_plain(fields: &[FieldView<'_>]) -> bool
-    ensures { result ≡ are_plain (map live_of_view fields.now) }
+/// Whether what is done at a field is done at a scalar or struct of one, two, four or eight bytes, aligned to as many,
+/// that may be absent.
+fn is_small_act(act: Act) -> bool
+    ensures { result ≡ is_small_act act }
+{
+    matches!(act, Act::One | Act::Two | Act::Four | Act::Eight)
+}
+
+/// What holds of all of these fields.
+pub fn sorts_of(fields: &[FieldView<'_>]) -> Sorts
+    ensures { result ≡ sorts_of (map live_of_view fields.now) }
 {
     let mut plain = true;
+    let mut small = true;
     for field in fields {
-        if !is_plain_act(act_of(field)) {
+        let act = act_of(field);
+        if !is_plain_act(act) {
             plain = false;
         }
+        if !is_small_act(act) {
+            small = false;
+        }
     }
-    plain
+    Sorts { plain, small }
 }
 
 /// The bit of an act.
@@ -88,16 +102,17 @@ fn step_of(field: &FieldView<'_>) -> Step
     }
 }
 
-/// The steps of these fields.
+/// The steps of these fields, with [`Step::END`] behind them.
 pub fn field_steps<A: Allocator>(
     alloc: A,
     fields: &[FieldView<'_>],
 ) -> Result<Vec<Step, A>, AllocError>
-    ensures { IfOk result (λ steps. steps.items ≡ map (λ f. step_of (live_of_view f)) fields.now) }
+    ensures { IfOk result (λ steps. steps.items ≡ chain_of (map live_of_view fields.now)) }
 {
     let mut steps = Vec::new(alloc);
     for field in fields {
         steps.push(step_of(field))?;
     }
+    steps.push(Step::END)?;
     Ok(steps)
 }

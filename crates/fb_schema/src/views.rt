@@ -110,4 +110,14 @@ impl Step {
     pub const LEADS_ON: u32 = 128;
     /// Beside [`Step::LEADS_ON`], of what leads to one table.
     pub const TO_TABLE: u32 = 256;
+
+    /// The step behind the last one of a table: no vtable is so long that its slot lies in it.
+    pub const END: Step = Step {
+        slot: 65534,
+        required: false,
+        act: Act::One,
+        bit: 1,
+        size: 1,
+        align: 1,
+    };
 }

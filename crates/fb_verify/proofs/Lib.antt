@@ -7,6 +7,7 @@ pub mod Standings
 pub mod Verdicts
 pub mod Walking
 pub mod Passing
+pub mod Smalls
 pub mod Alike
 pub mod Flats
 pub mod Turning

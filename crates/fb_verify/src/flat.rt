@@ -2,11 +2,10 @@
 // register.
 
 ghost use Rattle.std.specs.Prelude.{◌≡◌, ◌+◌, ◌-◌, ◌*◌, ◌^◌, ◌<◌, ◌≤◌, length, map, IsTrue, None, true, false};
-ghost use Rattle.fb_schema.specs.{Rows.is_table, Live.live_fields, Steps.is_plain, Steps.step_of};
-ghost use Rattle.std.specs.List.{All};
-ghost use Rattle.fb_rules.specs.{Alike.IsSmallStep, Alike.IsKept, Cost.head_reads, OffsetRows.AreTargetsOf, Order.head_failure, Plain.IsTested, Plain.StandsAt, Told.IsHead};
+ghost use Rattle.fb_schema.specs.{Rows.is_table, Live.live_fields, Steps.is_plain, Steps.is_small, Steps.step_of, Steps.chain_of};
+ghost use Rattle.fb_rules.specs.{Alike.IsKept, Cost.head_reads, OffsetRows.AreTargetsOf, Order.head_failure, Plain.IsTested, Plain.StandsAt, Told.IsHead};
 ghost use Rattle.fb_rules.specs.declared.{passed.Sizes.TheVariants.Small, offset_row.Leads.TheVariants.ByType, site.LastLink.TheVariants.Behind, site.LastLink.TheVariants.InField};
-ghost use Rattle.fb_rules.specs.declared.plain.Standing.TheVariants.{Known};
+ghost use Rattle.fb_rules.specs.declared.plain.{Standing.TheVariants.Known, Came.TheVariants.ToField};
 ghost use Rattle.fb_verify.specs.{Stack.opened, Stack.Waiting, StopsAt.IsStopAt, Flat.in_head, Flat.frame_at, Flat.Going, Flat.MayPass, Flat.PassesFlat};
 ghost use Rattle.fb_verify.specs.PassesOn.{IsBetween, HasRoom, Passage, PassesOn, CameTo, steps_left};
 ghost use Rattle.fb_verify.specs.Turns.{HasWord, IsAtMember, IsBrim, IsAtMembers, IsAtFlats, FitsWhole, MemberTurned, RowTurned};
@@ -20,9 +19,10 @@ use fb_rules::checks::{Checks, PUBLISHED, are_published};
 use fb_rules::fault::Reason;
 use fb_rules::limits::{short_of, tables_of};
 use fb_rules::offset_row::{Leads, Referent, Row};
-use fb_rules::passed::{Passed, Sizes, sizes_of};
+use fb_rules::passed::{Passed, Sizes};
 use fb_rules::plain::{
-    Came, Standing, follow, pass_step, test_first_word, test_head, test_lead, test_vtable,
+    Came, Standing, follow, pass_small_step, pass_step, test_first_word, test_head, test_lead,
+    test_vtable,
 };
 use fb_rules::site::LastLink;
 use fb_rules::table::{Child, NO_HEAD, Table};
@@ -120,6 +120,107 @@ pub fn pass_steps(
             Err(Reason::MissingRequired)
         }
     }
+}
+
+/// Does what [`pass_steps`] does, where all fields are small, so that none is required or leads on. Behind the last one
+/// stands a step whose slot no vtable has, so that the loop has no other end.
+#[inline(always)]
+fn pass_small_steps(
+    reads: &mut Reads<'_>,
+    checks: Checks,
+    table: Table,
+    chain: &[Step],
+    next: &mut u32,
+    at: &mut u64,
+) -> Result<bool, Reason>
+    ghost of: { Passage }
+    requires between { IsBetween of.walk reads.old of.under of.top }
+    requires room { HasRoom of.walk reads.old of.top }
+    requires same { checks ≡ of.walk.checks }
+    requires cut { checks.inline_size ≡ false }
+    requires table { table ≡ of.top.table }
+    requires next { next.old ≡ of.top.next }
+    requires chain { chain.now ≡ chain_of (live_fields of.walk.schema.now table.object) }
+    requires few { length chain.now ≤ 2 ^ 32 }
+    requires small { is_small of.walk.schema.now table.object ≡ true }
+    ensures { PassesOn of.walk reads.old reads.new of.under of.top (record of.top { next = next.new }) at.new result }
+{
+    let mut here = *next as usize;
+    loop {
+        let mut tested = 0;
+        match pass_small_step(reads, checks, table, &chain[here], &mut tested) {
+            Came::Past => here += 1,
+            Came::ToFault(reason) => {
+                *at = tested;
+                *next = here as u32;
+                return Err(reason);
+            }
+            _ => {
+                *next = (chain.len() - 1) as u32;
+                return Ok(false);
+            }
+        }
+    }
+}
+
+/// Does what [`pass_steps`] does by the published checks, over bytes that are lent on: apart, since its callers would
+/// grow so large with it that they wouldn't be put in place themselves.
+#[inline(never)]
+fn pass_steps_by_published(
+    reads: &mut Reads<'_>,
+    schema: &Schema<'_>,
+    table: Table,
+    steps: &[Step],
+    next: &mut u32,
+    at: &mut u64,
+) -> Result<bool, Reason>
+    ghost of: { Passage }
+    requires between { IsBetween of.walk reads.old of.under of.top }
+    requires room { HasRoom of.walk reads.old of.top }
+    requires same { record { alignment = true; inline_size = false } ≡ of.walk.checks }
+    requires schema { schema.now ≡ of.walk.schema.now }
+    requires table { table ≡ of.top.table }
+    requires next { next.old ≡ of.top.next }
+    requires steps { steps.now ≡ map step_of (live_fields of.walk.schema.now table.object) }
+    requires few { length steps.now < 2 ^ 32 }
+    ensures { PassesOn of.walk reads.old reads.new of.under of.top (record of.top { next = next.new }) at.new result }
+{
+    let mut own = reads.lend();
+    let passed = pass_steps(&mut own, PUBLISHED, schema, table, steps, next, at);
+    reads.settle(own);
+    passed
+}
+
+/// The same, in the loop for small fields where all are.
+#[inline(always)]
+pub fn pass_by_sizes(
+    reads: &mut Reads<'_>,
+    schema: &Schema<'_>,
+    table: Table,
+    steps: &[Step],
+    next: &mut u32,
+    at: &mut u64,
+) -> Result<bool, Reason>
+    ghost of: { Passage }
+    requires between { IsBetween of.walk reads.old of.under of.top }
+    requires room { HasRoom of.walk reads.old of.top }
+    requires same { record { alignment = true; inline_size = false } ≡ of.walk.checks }
+    requires schema { schema.now ≡ of.walk.schema.now }
+    requires table { table ≡ of.top.table }
+    requires next { next.old ≡ of.top.next }
+    requires steps { steps.now ≡ map step_of (live_fields of.walk.schema.now table.object) }
+    requires few { length steps.now < 2 ^ 32 }
+    ensures { PassesOn of.walk reads.old reads.new of.under of.top (record of.top { next = next.new }) at.new result }
+{
+    if schema.is_small(table.object) {
+        let chain = schema.chain_of(table.object);
+        // Bytes that are lent on, so that their count is in a register here.
+        let mut own = reads.lend();
+        let passed = pass_small_steps(&mut own, PUBLISHED, table, chain, next, at);
+        reads.settle(own);
+        return passed;
+    }
+    pass_steps_by_published(reads, schema, table, steps, next, at)
 }
 
 /// Passes the table at a position, of an object whose fields lead to no table: its head, and its fields by their steps.
@@ -309,7 +410,7 @@ impl<'s, 'n> Walk<'s, 'n> {
         ghost under: { Waiting }
         requires flats { IsAtFlats self.old reads.old under waiting top.old object }
         requires same { checks ≡ self.old.checks }
-        requires small { sizes ≡ Small → All IsSmallStep (map step_of (live_fields self.old.schema.now object)) }
+        requires small { sizes ≡ Small → is_small self.old.schema.now object ≡ true }
         requires whole { extent ≡ Whole → FitsWhole self.old reads.old top.old.row (length (live_fields self.old.schema.now object)) }
         ensures { (child : Child) → RowTurned self.old self.new reads.old reads.new under top.old top.new child result }
     {
@@ -406,7 +507,7 @@ impl<'s, 'n> Walk<'s, 'n> {
         ghost under: { Waiting }
         requires flats { IsAtFlats self.old reads.old under waiting top.old object }
         requires same { record { alignment = true; inline_size = false } ≡ self.old.checks }
-        requires small { All IsSmallStep (map step_of (live_fields self.old.schema.now object)) }
+        requires small { is_small self.old.schema.now object ≡ true }
         requires whole { FitsWhole self.old reads.old top.old.row (length (live_fields self.old.schema.now object)) }
         ensures { (child : Child) → RowTurned self.old self.new reads.old reads.new under top.old top.new child result }
     {
@@ -480,7 +581,7 @@ impl<'s, 'n> Walk<'s, 'n> {
         ensures { (child : Child) → RowTurned self.old self.new reads.old reads.new under top.old top.new child result }
     {
         if are_published(checks) && self.fits_whole(reads, top.row, object) {
-            if top.row.left > 1 && matches!(sizes_of(self.schema.steps_of(object)), Sizes::Small) {
+            if top.row.left > 1 && self.schema.is_small(object) {
                 return self.pass_small_by_published(reads, waiting, object, top);
             }
             return self.pass_flats_by_published(reads, waiting, object, top);

@@ -9,7 +9,7 @@ ghost use Rattle.fb_verify.specs.Stack.{blank, Origin, Waiting, IsWalking, opene
 ghost use Rattle.fb_verify.specs.Turns.{IsShort, IsAtChild, IsAtStep, IsAtTableField, AllowsTable, IsAtWord, IsBrim, IsBrimFor, IsInRow, with_tables, HasRoomToGo, RowTurned, FieldTurned};
 ghost use Rattle.fb_verify.specs.{Turns.Turned, Turns.Opened, Turns.FramesTurned, Turns.RootTurned, Turns.Walked, Turns.Ran, declared.stack.Turn.TheVariants.Halt as Halted};
 
-use crate::flat::{open_frame, pass_steps};
+use crate::flat::{open_frame, pass_by_sizes, pass_steps};
 use crate::scratch::Frame;
 use fb_bytes::{Loan, Reads};
 use fb_rules::checks::{Checks, PUBLISHED, are_published};
@@ -676,16 +676,14 @@ impl<'s, 'n> Walk<'s, 'n> {
     {
         let schema = self.schema;
         let steps = schema.steps_of(table.object);
-        let most = loan.reads() + u128::from(6 * steps.len() as u64);
-        if !are_published(self.checks) || !allows_short(self.limits, most) {
+        let brim = self.brim_for(6 * steps.len() as u64 + 1);
+        if !are_published(self.checks) || loan.reads() >= u128::from(brim) {
             return Turn::Slowly;
         }
         let mut next = 0;
         let mut at = 0;
         let mut reads = loan.lend();
-        let passed = pass_steps(
-            &mut reads, PUBLISHED, schema, table, steps, &mut next, &mut at,
-        );
+        let passed = pass_by_sizes(&mut reads, schema, table, steps, &mut next, &mut at);
         loan.settle(reads);
         match passed {
             Ok(_) => Turn::Up,

@@ -1,12 +1,12 @@
-use Rattle.std.proofs.Common.{◌≡◌, ℕ, ◌-◌, List, map, drop, length, option_map, slice_get, refl, sym, ◌∙◌, ap, arith, Some, None, Ok, [], false}
-use Rattle.std.proofs.lemmas.{List.length-map, List.length-drop, List.take_all, List.drop_all, List.Elements.All-nil, Option.slice_get-map}
+use Rattle.std.proofs.Common.{◌≡◌, ℕ, ◌-◌, List, map, drop, length, option_map, slice_get, refl, sym, ◌∙◌, ap, arith, Some}
+use Rattle.std.proofs.lemmas.{List.length-map, List.length-drop, List.take_all, Option.slice_get-map}
 use Rattle.fb_bytes.specs.Word.{Lent}
 use Rattle.fb_schema.specs.{Rows.Rows, Live.Live, Live.live_fields, Live.next_required, Steps.step_of, declared.views.Step.Step}
 use Rattle.fb_schema.proofs.Numbers.{slice_get_some}
-use Rattle.fb_rules.specs.{Plain.plain_failure, Plain.steps_reads, declared.fault.Reason.Reason, declared.plain.Came.Came}
+use Rattle.fb_rules.specs.{declared.fault.Reason.Reason, declared.plain.Came.Came}
 use Rattle.fb_rules.specs.declared.{plain.Came.TheVariants.Past, plain.Came.TheVariants.ToEnd, plain.Came.TheVariants.ToField, plain.Came.TheVariants.ToFault, table.Table.Table}
-use Rattle.fb_verify.specs.{PassesOn.EndsBehind, PassesOn.CameTo, PassesOn.PassesOn, Stack.Waiting, declared.scratch.Frame.Frame, declared.stack.Walk.Walk}
-use Rattle.fb_verify.proofs.Passing.{rest_holds, rest_free, AtStep, rest_absent, required_within, required_stops}
+use Rattle.fb_verify.specs.{PassesOn.EndsBehind, PassesOn.CameTo, Stack.Waiting, declared.scratch.Frame.Frame, declared.stack.Walk.Walk}
+use Rattle.fb_verify.proofs.{Passing.AtStep, Passing.required_within, Passing.required_stops, Smalls.ends_all, Smalls.ends_absent}
 use Rattle.fb_verify.proofs.flat.pass_steps.Goals.{After-next_required}
 use Rattle.fb_verify.proofs.flat.pass_steps.Goals as goal
 
@@ -70,15 +70,8 @@ pub returns-in_default-next_required : goal.returns-in_default-next_required
 returns-in_default-next_required g c =
     let d = (goal.at.returns-in_default-next_required g c).After-next_required in
     let e = behind g d in
-    let s = here g d in
     let f = first g d in
-    let past_slot = e.behind f.0 f.1 in
-    let none = sym (looks g d) ∙ c.in_default-next_required.is in
-    let all = many g d in
-    let walking = rest_absent s past_slot none in
-    let hold = (e.steps).hold (rw e.bytes at (rest_holds (e.between).walking (e.between).rests f.0 f.1 past_slot none)) in
-    let free = rw e.bytes at (rest_free (e.between).walking (e.between).rests f.0 f.1 past_slot none) in
-    search (arith, walking, hold, free, (e.steps).counted, all, e)
+    rw (many g d) (ends_absent _ _ _ _ _ _ _ f.0 f.1 e (sym (looks g d) ∙ c.in_default-next_required.is))
 
 pub returns-in-Some : goal.returns-in-Some
 returns-in-Some g c =
@@ -90,28 +83,7 @@ returns-in-Some g c =
     let err = rw e.bytes at (required_stops s (e.behind _ (first g d).1) c.in-Some.needed some) in
     rw c.requires.1.1.1.1.0 (record { comes = record { next = next; err = err }; same = refl; grows = e.grows; bytes = e.bytes })
 
--- no field is left
-ends_all : (w : Walk) (m new : Lent) (under : Waiting) (top : Frame) (at left : ℕ) → left ≡ 0 → EndsBehind w m new under top (record top { next = length (live_fields w.schema.now (top.table).object) - left })
-    → PassesOn w m new under top (record top { next = length (live_fields w.schema.now (top.table).object) - left }) at (Ok false)
-ends_all w m new under top at left zero e =
-    let fs = live_fields w.schema.now (top.table).object in
-    let none : drop (length fs - left) (map step_of fs) ≡ [] = drop_all (length fs - left) (map step_of fs) (omega (arith, zero, length-map fs step_of)) in
-    record {
-      comes = record {
-        walking = (e.between).walking;
-        forth = e.forth;
-        within = e.within;
-        all = omega (arith, zero);
-        ends = e.paid;
-        hold = (e.steps).hold (rw none (All-nil (λ s. plain_failure w.checks m.bytes (top.table).at s ≡ None)));
-        counted = omega (arith, (e.steps).counted, ap (steps_reads m.bytes (top.table).at) none);
-      };
-      same = refl;
-      grows = e.grows;
-      bytes = e.bytes;
-    }
-
 pub returns-then-left-eq0 : goal.returns-then-left-eq0
 returns-then-left-eq0 g c =
     let behind = ends _ _ _ _ _ _ _ c.pass_by-came.result c.in_default.not-ToField c.in_default.not-ToFault c.pass_by-came.ensures.came in
-    rw (all_steps (g.of).walk.schema.now c.args.table (g.of).top c.requires.1.1.1.1.0 c.requires.1.1.1.1.1.1.0) (ends_all _ _ _ _ _ _ _ c.if-left-eq0.true behind)
+    rw (all_steps (g.of).walk.schema.now c.args.table (g.of).top c.requires.1.1.1.1.0 c.requires.1.1.1.1.1.1.0) (ends_all _ _ _ _ _ _ _ (omega (arith, c.if-left-eq0.true)) behind)

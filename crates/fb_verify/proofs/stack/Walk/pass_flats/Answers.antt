@@ -4,7 +4,7 @@ use Rattle.fb_rules.specs.{Bounds.AreAllowed, Fields.to_table, Order.after, Orde
 use Rattle.fb_rules.specs.declared.offset_row.{Leads.Leads, Leads.TheVariants.All, Referent.TheVariants.Table as ATable}
 use Rattle.fb_verify.specs.{Turns.GoesOn, Turns.with_tables, declared.stack.Walk.Walk, declared.flat.Extent.Extent}
 use Rattle.fb_verify.specs.declared.flat.Extent.TheVariants.{Whole, Part}
-use Rattle.fb_rules.proofs.Budgets.{fewer_reads}
+use Rattle.fb_rules.proofs.{Budgets.fewer_reads, Plains.small_steps}
 use Rattle.fb_verify.proofs.{Flats.at_flat, Flats.word_tells, Frames.length_map}
 use Rattle.fb_verify.proofs.RowTurns.{two, Counts, flat_comes, table_passed, table_halts, word_halts, word_stands, fewer_left, next_stands, none_with, one_with, stays}
 use Rattle.fb_verify.proofs.stack.Walk.pass_flats.Goals.{After-follow-failed, After-advance_all}
@@ -161,7 +161,7 @@ loop-schema-init g c =
       stands = c.stands.ensures c.if-not-stands.false;
       paid = omega arith;
       leads = sym (c.requires.0).leads;
-      kept = rw c.none-passed.ensures (record { small = c.requires.1.1.0; holds = λ h. absurd (omega (arith, h)) });
+      kept = rw c.none-passed.ensures (record { small = λ e. small_steps (live_fields c.args.self.now.schema.now c.args.object) (c.requires.1.1.0 e); holds = λ h. absurd (omega (arith, h)) });
     }
 
 -- On numbers.

@@ -1,9 +1,10 @@
-use Rattle.std.proofs.Common.{◌≡◌, ℕ, ◌+◌, ◌*◌, ◌^◌, ◌<◌, true, false, Bool, List, [], map, length, refl, sym, ◌∙◌, ap, subst, arith, Ok}
+use Rattle.std.proofs.Common.{◌≡◌, ℕ, ◌+◌, ◌*◌, ◌<◌, true, false, Bool, List, [], map, length, refl, sym, ◌∙◌, ap, arith, Ok}
 use Rattle.fb_bytes.specs.Word.{Lent}
 use Rattle.fb_schema.specs.{Live.live_fields, Steps.is_plain, Steps.step_of, declared.views.Step.Step}
-use Rattle.fb_rules.specs.{Bounds.AreAllowed, declared.table.Table.Table}
-use Rattle.fb_verify.specs.{PassesOn.fields_left, PassesOn.HasRoom, PassesOn.IsBetween, PassesOn.PassesOn, Stack.IsWalking, Stack.opened, Stack.Waiting, Turns.WentOver}
+use Rattle.fb_rules.specs.{declared.table.Table.Table}
+use Rattle.fb_verify.specs.{PassesOn.fields_left, PassesOn.HasRoom, PassesOn.IsBetween, PassesOn.PassesOn, Stack.IsWalking, Stack.opened, Stack.Waiting, Turns.IsBrimFor, Turns.WentOver}
 use Rattle.fb_verify.specs.declared.stack.Walk.{Walk}
+use Rattle.fb_rules.proofs.Budgets.{fewer_reads}
 use Rattle.fb_verify.proofs.{Flats.never_on, Frames.length_map, Turning.went_over}
 use Rattle.fb_verify.proofs.stack.Walk.pass_root.Goals as goal
 
@@ -15,14 +16,14 @@ root_over w m new under table next at none plain false p = went_over under _ ref
 
 pub returns-in-Ok : goal.returns-in-Ok
 returns-in-Ok g c =
-    let p = rw (c.lend-reads.ensures.lent, c.requires.0, c.in-Ok.is) at c.pass_steps-passed.ensures in
-    let new = c.pass_steps-passed.new in
+    let p = rw (c.lend-reads.ensures.lent, c.requires.0, c.in-Ok.is) at c.pass_by_sizes-passed.ensures in
+    let new = c.pass_by_sizes-passed.new in
     let o = root_over c.args.self.now _ new.reads (g.going).under c.args.table new.next new.at c.requires.1.1.0 c.requires.1.1.1 c.in-Ok.field-0 p in
     rw c.settle.ensures (record { same = refl; over = o.over; within = o.within; shallow = o.shallow; reads = o.reads; bytes = o.bytes })
 
 pub returns-in-Err : goal.returns-in-Err
 returns-in-Err g c =
-    let p = rw (c.lend-reads.ensures.lent, c.requires.0, c.in-Err.is) at c.pass_steps-passed.ensures in
+    let p = rw (c.lend-reads.ensures.lent, c.requires.0, c.in-Err.is) at c.pass_by_sizes-passed.ensures in
     let e = c.stop_by-stop.ensures in
     let stops = (p.comes).err c.stop_by-stop.result (record { refusal = e.refusal; object = e.object; field = e.field }) in
     rw (c.halt-self.ensures, c.settle.ensures) (
@@ -39,23 +40,23 @@ module _ (w v : Walk) (m n : Lent) (walk : v ≡ w) (count : n.count ≡ m.count
   between_at : (under : Waiting) → under.frames ≡ [] → n.bytes ≡ m.bytes → IsWalking w m under.start [] (opened table) → IsBetween v n under (opened table)
   between_at under root bytes h = record { walking = rw (walk, root, bytes, count) h; rests = refl }
 
-  room_at : (steps : List Step) (r k : ℕ) → r ≡ m.count → k ≡ 6 * length steps → steps ≡ map step_of (live_fields w.schema.now table.object) → AreAllowed (w.limits).reads (r + k) → r + k < 2 ^ 56 → HasRoom v n (opened table)
-  room_at steps r k same most its allowed short =
-      let long : r + k ≡ n.count + 6 * fields_left w.schema.now (opened table) = omega (arith, same, most, count, ap length its, length_map step_of (live_fields w.schema.now table.object)) in
-      rw walk (record { allowed = subst (λ (x : ℕ). AreAllowed (w.limits).reads x) long allowed; short = rw long at short })
+  room_at : (steps : List Step) (brim : ℕ) → steps ≡ map step_of (live_fields w.schema.now table.object) → IsBrimFor w (6 * length steps + 1) brim → m.count < brim → HasRoom v n (opened table)
+  room_at steps brim its room less =
+      let x = room m.count less in
+      let left = 6 * fields_left w.schema.now (opened table) in
+      let long : m.count + (6 * length steps + 1) ≡ n.count + left + 1 = omega (arith, count, ap length its, length_map step_of (live_fields w.schema.now table.object)) in
+      rw walk (record { allowed = fewer_reads (w.limits).reads (n.count + left) (m.count + (6 * length steps + 1)) (omega (arith, long)) x.0; short = omega (arith, long, x.1) })
 
-pub pass_steps-passed-requires : goal.pass_steps-passed-requires
-pass_steps-passed-requires g c =
+pub pass_by_sizes-passed-requires : goal.pass_by_sizes-passed-requires
+pass_by_sizes-passed-requires g c =
     let w = c.args.self.now in
     let walk = c.requires.0 in
     let lent = c.lend-reads.ensures.lent in
     let count = ap (λ (x : Lent). x.count) lent in
-    let test = c.if-not-allows_short.false in
     let steps = c.steps_of-steps in (
       between_at w (g.going).walk c.args.loan.now c.lend-reads.result walk count c.args.table (g.going).under c.requires.1.1.0 (ap (λ (x : Lent). x.bytes) lent) c.requires.1.0,
       (
-        room_at w (g.going).walk c.args.loan.now c.lend-reads.result walk count c.args.table steps.result.now c.reads.result c.from.result c.reads.ensures.count c.from.ensures steps.ensures.value (c.allows_short.ensures.allowed test)
-            (c.allows_short.ensures.short test),
+        room_at w (g.going).walk c.args.loan.now c.lend-reads.result walk count c.args.table steps.result.now c.brim_for-brim.result steps.ensures.value c.brim_for-brim.ensures (omega (arith, c.if-reads-from.false, c.reads.ensures.count, c.from.ensures)),
         (
           sym (ap (λ (x : Walk). x.checks) walk ∙ c.are_published.ensures c.if-not-are_published.false),
           (sym (ap (λ (x : Walk). x.schema.now) walk), (refl, (refl, (steps.ensures.value ∙ ap (λ (x : Walk). map step_of (live_fields x.schema.now c.args.table.object)) (sym walk), steps.ensures.few)))),
