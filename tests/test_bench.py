@@ -58,7 +58,7 @@ class Bench(LibraryCase):
         for corpus in building.CORPORA:
             text = f"{corpus.name}, {corpus.shape}: all three say yes to each of {corpus.counted.messages}"
             self.holds(corpus.name, text in told, told)
-        self.holds("damaged messages are counted", any(" of 7200 damaged messages" in line for line in told), told)
+        self.holds("damaged messages are counted", any(" of 8400 damaged messages" in line for line in told), told)
 
     def test_differences_are_told(self):
         for name, edit, text in [
@@ -154,10 +154,10 @@ class Bench(LibraryCase):
     def test_a_chart_is_drawn(self):
         costs = {"fbcheck": timing.Cost(1.0, 1.0, None), "reflection": timing.Cost(2.0, 2.5, None),
                  "generated": timing.Cost(0.5, 0.5, None)}
-        drawn = chart.chart([(corpus, costs) for corpus in building.CORPORA])
+        drawn = chart.chart([(corpus, costs) for corpus in building.STREAMS])
         root = xml.etree.ElementTree.fromstring(drawn)
         widths = [float(bar.get("width")) for bar in root.iter("{http://www.w3.org/2000/svg}rect")]
         bars = [chart.ROOM / 2, chart.ROOM, chart.ROOM / 4]
-        self.same("the legend's marks, and three bars a corpus", widths[3:], bars * len(building.CORPORA))
+        self.same("the legend's marks, and three bars a corpus", widths[3:], bars * len(building.STREAMS))
         texts = [text.text for text in root.iter("{http://www.w3.org/2000/svg}text")]
         self.holds("times a unit", "2.00  (2 µs a message)" in texts and "0.50  (125 ns a string)" in texts, texts)

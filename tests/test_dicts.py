@@ -60,7 +60,7 @@ ENUMS = {"axis": AXES, "axes": AXES, "colour": COLOURS, "mood": COLOURS}  # the 
 # The corpora of bench/compare: how many messages, and how many parts one has.
 COMPARED = TOP / "bench/comparison"
 CORPORA = {"monsters": (400, 1), "movies": (2000, 1), "wide": (500, 1), "deep": (50, 60), "items": (2, 2000),
-           "names": (2, 2000)}
+           "names": (2, 2000), "orders": (1000, 1)}
 
 # What a process tells of a dict that needs more memory than it may have.
 STARVED = """

@@ -58,8 +58,8 @@ class Corpus:
         return size.messages * (1 if self.unit == "message" else size.parts)
 
 
-# An item more would be one table more than the limit of a million allows.
-CORPORA = [
+# The streams of whole runs. An item more would be one table more than the limit of a million allows.
+STREAMS = [
     Corpus("monsters", "Monster", "nested tables of all kinds", "message", Size(50000), Size(2000), Size(1200)),
     Corpus("movies", "Movie", "vectors of unions", "message", Size(300000), Size(12000), Size(1200)),
     Corpus("wide", "Reading", "flat tables", "message", Size(1000000), Size(40000), Size(1200)),
@@ -67,6 +67,9 @@ CORPORA = [
     Corpus("items", "Store", "a long vector of tables", "table", Size(3, 999999), Size(1, 120000), Size(1200, 8)),
     Corpus("names", "Directory", "a long vector of strings", "string", Size(4, 10**6), Size(1, 160000), Size(1200, 8)),
 ]
+# What is checked by calls alone: messages as servers get them, of 200 to 400 bytes.
+ORDERS = Corpus("orders", "Order", "small messages", "message", Size(300000), Size(12000), Size(1200))
+CORPORA = [*STREAMS, ORDERS]
 
 
 def missing():

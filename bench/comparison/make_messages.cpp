@@ -16,6 +16,7 @@
 #include "monsters_generated.h"
 #include "movies_generated.h"
 #include "names_generated.h"
+#include "orders_generated.h"
 #include "wide_generated.h"
 
 using namespace compare;
@@ -239,6 +240,34 @@ Offset<Item> item(FlatBufferBuilder &builder) {
   return made.Finish();
 }
 
+Offset<Line> line(FlatBufferBuilder &builder) {
+  const auto article = text(builder, 4, 14);
+  const auto count = static_cast<uint16_t>(1 + below(3));
+  return CreateLine(builder, article, count, static_cast<uint32_t>(below(100000)));
+}
+
+Offset<Address> address(FlatBufferBuilder &builder) {
+  const auto street = text(builder, 6, 20);
+  const auto city = text(builder, 4, 12);
+  const auto code = chance(80) ? text(builder, 5, 7) : 0;
+  return CreateAddress(builder, street, city, code);
+}
+
+Offset<Customer> customer(FlatBufferBuilder &builder) {
+  const auto name = text(builder, 6, 20);
+  const auto home = address(builder);
+  return CreateCustomer(builder, below(1 << 30), name, home);
+}
+
+Offset<Order> order(FlatBufferBuilder &builder) {
+  const auto lines = builder.CreateVector(list(2 + below(2), [&] { return line(builder); }));
+  const auto buyer = customer(builder);
+  const auto note = chance(30) ? text(builder, 5, 30) : 0;
+  const uint64_t id = below(1 << 30);
+  const uint64_t time = engine();
+  return CreateOrder(builder, id, time, buyer, lines, note, chance(50));
+}
+
 void build(FlatBufferBuilder &builder, const std::string &corpus, uint64_t parts) {
   if (corpus == "monsters") {
     builder.FinishSizePrefixed(monster(builder, 2));
@@ -248,6 +277,8 @@ void build(FlatBufferBuilder &builder, const std::string &corpus, uint64_t parts
     builder.FinishSizePrefixed(reading(builder));
   } else if (corpus == "deep") {
     builder.FinishSizePrefixed(folder(builder, parts));
+  } else if (corpus == "orders") {
+    builder.FinishSizePrefixed(order(builder));
   } else if (corpus == "items") {
     const auto items = builder.CreateVector(list(parts, [&] { return item(builder); }));
     builder.FinishSizePrefixed(CreateStore(builder, items));
