@@ -214,11 +214,7 @@ pub fn pass_by_sizes(
 {
     if schema.is_small(table.object) {
         let chain = schema.chain_of(table.object);
-        // Bytes that are lent on, so that their count is in a register here.
-        let mut own = reads.lend();
-        let passed = pass_small_steps(&mut own, PUBLISHED, table, chain, next, at);
-        reads.settle(own);
-        return passed;
+        return pass_small_steps(reads, PUBLISHED, table, chain, next, at);
     }
     pass_steps_by_published(reads, schema, table, steps, next, at)
 }
