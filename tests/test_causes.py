@@ -82,7 +82,7 @@ class Causes(Case):
         self.same("a file", of_cause("EINTR", "/nowhere", opens=1), failed("/nowhere: no such file"))
 
     def test_words_of_each_kind(self):
-        text = (TOP / "crates/fbcheck_serve/specs/Causes.antt").read_text()
+        text = (TOP / "crates/fbcheck_texts/specs/Causes.antt").read_text()
         found = dict(re.findall(r'(?m)^known_reason kind\.(\w+) = Some \(codes "(.*)"\)$', text))
         self.same("the words for each kind", found, WORDS)
         self.same("each line of it", len(re.findall(r"(?m)^known_reason ", text)), len(WORDS) + 1)

@@ -209,7 +209,7 @@ class Hints(Case):
 
     def test_each_text_of_the_code_stands_in_a_row(self):
         hints = [hint for *_, hint in ROWS if hint]
-        for file in "fb_access/src/hint", *(f"fbcheck_serve/src/{name}" for name in ("hint", "unsupported", "framing")):
+        for file in "fb_access/src/hint", *(f"fbcheck_texts/src/{name}" for name in ("hint", "unsupported", "framing")):
             code = (TOP / f"crates/{file}.rt").read_text()
             for text in re.findall(r'b"((?:[^"\\]|\\.)+)"', code):
                 text = text.removesuffix(r"\n")

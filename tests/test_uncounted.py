@@ -22,7 +22,7 @@ KNOWN = {
     ("fb_strict/way.rt", "Meter::new("): 1,  # a buffer whose links are looked up
     ("fb_strict/way.rt", "seal("): 1,
     ("fb_run/checker.rt", "Meter::new("): 1,  # a message's buffer, which `report` is lent or `verify` takes
-    ("fbcheck_serve/unsupported.rt", "Meter::new("): 1,  # a schema file, which `verify` takes, for its field's name
+    ("fbcheck_texts/unsupported.rt", "Meter::new("): 1,  # a schema file, which `verify` takes, for its field's name
     ("fbcheck_calls/checking.rt", "Meter::new("): 1,  # a call's buffer, which a walk is lent or `verify` takes
     ("fbcheck_calls/again.rt", "seal("): 1,  # a buffer in which values are read again, each position tested, uncounted
     ("fbcheck_calls/each.rt", "seal("): 1,  # the same for elements

@@ -10,10 +10,10 @@ use Rattle.fb_bfbs.specs.{Fixed.fixed, Loads.IsLoaded, Marks.IsMarksFault, decla
 use Rattle.fb_bfbs.specs.declared.load_fault.LoadFault.TheVariants as load
 use Rattle.fb_bfbs.proofs.OneLoad.{one_answer as one_load}
 use Rattle.fb_run.specs.Ends.{Ends}
+use Rattle.fbcheck_texts.specs.declared.fault.AskFault.{AskFault, TheVariants.NoSuchTable, TheVariants.OutOfMemory, TheVariants.Path, TheVariants.UnmarkedBytes}
+use Rattle.fbcheck_texts.specs.declared.choices.Settings.{Settings}
 use Rattle.fbcheck_serve.specs.Asked.{IsAskedPlan, IsFound, Own, asked_root, path_texts}
 use Rattle.fbcheck_serve.specs.{Checking.IsIdle, Checking.IsPathless, Checking.IsPlanless, Checking.IsSchema, Checking.LacksJob}
-use Rattle.fbcheck_serve.specs.declared.fault.AskFault.{AskFault, TheVariants.NoSuchTable, TheVariants.OutOfMemory, TheVariants.Path, TheVariants.UnmarkedBytes}
-use Rattle.fbcheck_serve.specs.declared.choices.Settings.{Settings}
 
 -- the table Schema of the fixed table is a table
 pub schema_is_table : (rows : Rows) → rows ≡ fixed → IsTrue (is_table rows 9)

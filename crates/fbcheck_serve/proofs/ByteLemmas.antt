@@ -5,7 +5,8 @@ use Rattle.std.specs.declared.alloc.AllocError.{AllocError}
 use Rattle.fb_schema.specs.Rows.{Rows}
 use Rattle.fb_bfbs.specs.Marks.{Marked}
 use Rattle.fb_strict.specs.Holding.{is_lost}
-use Rattle.fbcheck_serve.specs.{ByteFields.has_lost, Hints.fault_with, declared.fault.AskFault.AskFault, declared.fault.AskFault.TheVariants.OutOfMemory}
+use Rattle.fbcheck_texts.specs.{Hints.fault_with, declared.fault.AskFault.AskFault, declared.fault.AskFault.TheVariants.OutOfMemory}
+use Rattle.fbcheck_serve.specs.ByteFields.{has_lost}
 
 -- a fault with its hint is itself, or want of memory
 pub told_or_not : {A : Type 0} (fault told : AskFault) (hint : Result A AllocError) → told ≡ fault_with fault hint → (told ≡ fault) ⊎ (told ≡ OutOfMemory)

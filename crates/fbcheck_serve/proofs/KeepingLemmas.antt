@@ -2,7 +2,8 @@
 use Rattle.std.proofs.Common.{◌≡◌, ℕ, List, Some, None, refl}
 use Rattle.std.specs.Prelude.{option_map, string_bytes}
 use Rattle.fb_run.specs.Ends.{Writer, nowhere}
-use Rattle.fbcheck_serve.specs.{Keeping.Keeping, Keeping.Maker, declared.choices.Settings.Settings}
+use Rattle.fbcheck_texts.specs.declared.choices.Settings.{Settings}
+use Rattle.fbcheck_serve.specs.{Keeping.Keeping, Keeping.Maker}
 
 module _ (maker : Maker) (settings : Settings) (Holds : Writer → Writer → Type 0) where
   -- where no file is named, and where one is

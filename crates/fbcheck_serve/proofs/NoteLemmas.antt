@@ -4,11 +4,11 @@ use mathlib.Core.Logic.{inl, inr}
 use Rattle.std.specs.{Io.KnownBytes.Appends, Global.Global, Prelude.String}
 use Rattle.std.proofs.{KnownBytes.Appends-trans, Math.Nat.eq-or-lt_of_le, Math.Seq.take-append-add, Math.Seq.take-length, lemmas.List.length-append}
 use Rattle.std.proofs.Common.{None, refl, codes}
-use Rattle.fbcheck_serve.specs.{FaultJson.fault_object, Inputs.IsNoted, Serving.IsBehindStop, Serving.IsStopLine, Serving.TellsStop, Serving.stop_status, Serving.stop_text}
-use Rattle.fbcheck_serve.specs.declared.{causes.Causes.Causes, stop.EarlyEnd.EarlyEnd}
+use Rattle.fbcheck_texts.specs.{FaultJson.fault_object, declared.causes.Causes.Causes}
+use Rattle.fbcheck_serve.specs.{Inputs.IsNoted, Serving.IsBehindStop, Serving.IsStopLine, Serving.TellsStop, Serving.stop_status, Serving.stop_text, declared.stop.EarlyEnd.EarlyEnd}
 use Rattle.fb_bytes.specs.Ends.{one_more}
 use Rattle.fb_run.specs.{Ends.Writer, declared.options.LineForm.LineForm, declared.options.LineForm.TheVariants.Json}
-use Rattle.fbcheck_serve.proofs.FaultJsonLemmas.{object_in, plain_in}
+use Rattle.fbcheck_texts.proofs.FaultJsonLemmas.{object_in, plain_in}
 use Rattle.fbcheck_serve.specs.declared.stop.EarlyEnd.TheVariants as stop
 
 -- the first text stands written, and the second whole or in part

@@ -13,11 +13,12 @@ use Rattle.fb_bfbs.specs.declared.load_fault.LoadFault.TheVariants as load
 use Rattle.fb_bfbs.specs.{LoadLaws.Applies, LoadLaws.IsSameLoad, LoadLaws.ident_bytes, declared.loading.Loaded.Loaded}
 use Rattle.fb_strict.specs.Planned.{IsPlan, Planned}
 use Rattle.fb_strict.proofs.Marks.{one_plan}
+use Rattle.fbcheck_texts.specs.{declared.choices.Settings.Settings, declared.fault.AskFault.AskFault}
+use Rattle.fbcheck_texts.specs.declared.fault.AskFault.TheVariants.{Load, Path, NoRoot, NoIdent, UnmarkedBytes, NoSuchTable, OutOfMemory}
 use Rattle.fbcheck_serve.specs.Asked.{ArePaths, AsksBy, IsAsked, IsAskedPlan, demanded, demanded_by, IsFound, IsPath, LacksIdent, IsPathFault, HasPathFault, Own, asked_root}
 use Rattle.fbcheck_serve.specs.{Asked.options_of, Asked.own_label, Asked.path_texts, Inputs.with_label, CheckLaws.AsksOnce, ByteFields.has_lost, FileMarks.ArePlanMarks}
 use Rattle.fbcheck_serve.specs.{FileMarks.IsMarkedFile, FileMarks.schema_limits, Checking.AsksMarks, Checking.HasLostMark, Checking.HasUnmarkedBytes, Checking.MayAsk}
-use Rattle.fbcheck_serve.specs.{Checking.IsSchema, Checking.IsNoSchema, Checking.own_of, declared.choices.Settings.Settings, declared.fault.AskFault.AskFault}
-use Rattle.fbcheck_serve.specs.declared.fault.AskFault.TheVariants.{Load, Path, NoRoot, NoIdent, UnmarkedBytes, NoSuchTable, OutOfMemory}
+use Rattle.fbcheck_serve.specs.{Checking.IsSchema, Checking.IsNoSchema, Checking.own_of}
 
 module _ (rows : Rows) (root : ℕ) where
   one_path : (text : List ℕ) (x y : Wanted) → IsPath rows root text x → IsPath rows root text y → x ≡ y

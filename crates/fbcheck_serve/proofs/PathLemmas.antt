@@ -8,8 +8,9 @@ use Rattle.fb_access.specs.{Resolving.IsFault, declared.path_fault.PathFault.Pat
 use Rattle.fb_schema.specs.Rows.{Rows}
 use Rattle.fb_run.specs.Wanted.{Wanted}
 use Rattle.fb_run.proofs.FoundLemmas.{both_more}
-use Rattle.fbcheck_serve.specs.{Asked.ArePaths, Asked.IsPath, Asked.IsPathFault, Asked.PathFails, Checking.IsPathless, declared.fault.AskFault.AskFault}
-use Rattle.fbcheck_serve.specs.declared.fault.AskFault.TheVariants.{OutOfMemory, Path}
+use Rattle.fbcheck_texts.specs.declared.fault.AskFault.{AskFault}
+use Rattle.fbcheck_texts.specs.declared.fault.AskFault.TheVariants.{OutOfMemory, Path}
+use Rattle.fbcheck_serve.specs.{Asked.ArePaths, Asked.IsPath, Asked.IsPathFault, Asked.PathFails, Checking.IsPathless}
 
 module _ (rows : Rows) (root : ℕ) where
   -- the next text fails, behind those that name paths

@@ -6,13 +6,14 @@ use Rattle.std.specs.{Borrow.Bor, Io.KnownBytes.Appends, Result.OnErr, declared.
 use Rattle.std.specs.Prelude.{if◌then◌else◌, IfOk, IfSome, String, map, option_map, string_bytes}
 use Rattle.std.proofs.{KnownBytes.Keeps-refl, Math.Seq.take-length, lemmas.Bool.eq-eqb, lemmas.Bool.eqb-true, lemmas.List.length-map, lemmas.List.nil_from_length}
 use Rattle.clap.specs.Walk.{Text}
-use Rattle.fbcheck_serve.specs.{Given.AreGiven, Refusal.Refuses, Checking.IsPromptAmongAsked, Checking.IsPromptAsAsked, Checking.IsPromptOverAsked, Checking.MayReadAsked}
-use Rattle.fbcheck_serve.specs.{Keeping.IsCheckedKeeping, Keeping.IsServedKeeping, Keeping.Maker, Faults.IsFile, Lists.AreNamed, Names.Named, Inputs.Folder, Inputs.Seen}
+use Rattle.fbcheck_texts.specs.{Given.AreGiven, Refusal.Refuses, Faults.IsFile, declared.framing.By.By, declared.framing.Manner.Manner}
+use Rattle.fbcheck_texts.specs.declared.{choices.Settings.Settings, choices.SettingsFault.SettingsFault}
+use Rattle.fbcheck_serve.specs.{Checking.IsPromptAmongAsked, Checking.IsPromptAsAsked, Checking.IsPromptOverAsked, Checking.MayReadAsked}
+use Rattle.fbcheck_serve.specs.{Keeping.IsCheckedKeeping, Keeping.IsServedKeeping, Keeping.Maker, Lists.AreNamed, Names.Named, Inputs.Folder, Inputs.Seen}
 use Rattle.fbcheck_serve.specs.{Inputs.with_cause, Serving.ChecksAsAsked, Serving.ComesAsAsked, Serving.ComesBy, Serving.IsAlone, Serving.IsNameless, Serving.EndsFiles}
 use Rattle.fbcheck_serve.specs.Serving.{EndsRun, EndsSo, HoldsAsGiven, MayReadAsGiven, PassesAsAsked, Rests, SumsUp, TellsIn, IsFormOf, Unserved, files_ending, is_set, lent_bytes}
-use Rattle.fbcheck_serve.specs.{Serving.run_ending, Serving.summed, Serving.unbegun_stop, declared.check.Unbegun.Unbegun, declared.framing.By.By, declared.framing.Manner.Manner}
-use Rattle.fbcheck_serve.specs.declared.{choices.Settings.Settings, choices.SettingsFault.SettingsFault, stop.Ending.Ending, stop.Ending.TheVariants.Helped, stop.EarlyEnd.EarlyEnd}
-use Rattle.fbcheck_serve.specs.declared.{stop.Sums.Sums, inputs.Course.Course}
+use Rattle.fbcheck_serve.specs.{Serving.run_ending, Serving.summed, Serving.unbegun_stop, declared.check.Unbegun.Unbegun}
+use Rattle.fbcheck_serve.specs.declared.{stop.Ending.Ending, stop.Ending.TheVariants.Helped, stop.EarlyEnd.EarlyEnd, stop.Sums.Sums, inputs.Course.Course}
 use Rattle.fb_run.specs.{Ends.Ends, Ends.Reader, Ends.Writer, Ends.beside, Ends.nowhere, Ends.with_rejects, Faults.End, Faults.EndsBeside, JsonSums.summary_in, Leave.ends_of}
 use Rattle.fb_run.specs.declared.run.Ran.{Ran}
 use Rattle.fb_bytes.specs.declared.stream_fault.StreamFault.TheVariants as stream
@@ -21,10 +22,10 @@ use Rattle.fbcheck_serve.proofs.AskedLemmas.{idle}
 use Rattle.fb_run.specs.declared.input.Input as input
 use Rattle.fb_bytes.specs.declared.ends.Sink as sink
 use Rattle.fb_run.specs.declared.{options.LineForm.LineForm, options.LineForm.TheVariants.Plain, tally.Tally.Tally}
+use Rattle.fbcheck_texts.specs.declared.choices.SettingsFault.TheVariants as refusal
 use Rattle.fbcheck_serve.specs.declared.check.Kept as check
 use Rattle.fbcheck_serve.specs.declared.check.Unbegun.TheVariants as unbegun
 use Rattle.fbcheck_serve.specs.declared.inputs.Passed as inputs
-use Rattle.fbcheck_serve.specs.declared.choices.SettingsFault.TheVariants as refusal
 use Rattle.fbcheck_serve.specs.declared.stop.EarlyEnd.TheVariants as stop
 
 module _ (folder : Folder) where

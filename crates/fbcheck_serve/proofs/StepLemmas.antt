@@ -7,7 +7,8 @@ use Rattle.std.specs.List.{AllByRecursion}
 use Rattle.fb_access.specs.Grammar.{IsName, IsNumber, IsPart, Part, element, field, goes_on, is_digit, member, spelling}
 use Rattle.fb_access.specs.{Resolving.Follows, declared.step.Step.Step}
 use Rattle.fb_schema.specs.{Rows.Rows, declared.kinds.Kind.Kind, declared.kinds.Kind.TheVariants.Table}
-use Rattle.fbcheck_serve.specs.{CheckLaws.AreStepsAsWritten, Given.is_sign}
+use Rattle.fbcheck_texts.specs.Given.{is_sign}
+use Rattle.fbcheck_serve.specs.CheckLaws.{AreStepsAsWritten}
 
 -- how many bytes of a text begin a further step
 abbrev begun : List ℕ → ℕ

@@ -7,10 +7,10 @@ use Rattle.clap.proofs.WalkLemmas.{both}
 use Rattle.fb_schema.specs.Rows.{Rows}
 use Rattle.fb_bfbs.specs.{ByteFields.HasUnmarked, Marks.AreMarks, Marks.marked, declared.marks.Marks.Marks}
 use Rattle.fb_strict.specs.Planned.{IsPlan, Planned}
+use Rattle.fbcheck_texts.specs.declared.fault.AskFault.{AskFault, TheVariants.NoSuchTable, TheVariants.OutOfMemory, TheVariants.UnmarkedBytes}
+use Rattle.fbcheck_texts.specs.declared.{hint.Unasked.Unasked, choices.Settings.Settings}
 use Rattle.fbcheck_serve.specs.{Asked.IsAskedPlan, Asked.demanded, Asked.demanded_by, Asked.is_demanding, ByteFields.LacksPlan, ByteFields.Misses, ByteFields.has_lost}
 use Rattle.fbcheck_serve.specs.{Checking.IsPlanBy, Checking.IsPlanless, Checking.LacksPlanBy, Checking.MayAsk, Checking.NeedsMarks, FileMarks.IsMarkedFile, FileMarks.schema_limits}
-use Rattle.fbcheck_serve.specs.declared.fault.AskFault.{AskFault, TheVariants.NoSuchTable, TheVariants.OutOfMemory, TheVariants.UnmarkedBytes}
-use Rattle.fbcheck_serve.specs.declared.{hint.Unasked.Unasked, choices.Settings.Settings}
 
 -- Whose marks are asked.
 

@@ -8,8 +8,9 @@ use Rattle.fb_bfbs.specs.{LoadLaws.own_ident, Marks.Marked}
 use Rattle.fb_strict.specs.{declared.demands.Demands.Demands, Demanded.Demanded, Demanded.demanded as holding, Holding.holdings_if, Planned.IsPlan, Planned.Planned}
 use Rattle.fb_run.specs.{Job.Job, Job.job_of, Wanted.Wanted, declared.options.Rejects.Rejects, declared.options.Options.Options, declared.options.Rejects.TheVariants.Dropped}
 use Rattle.fb_run.specs.declared.options.Rejects.TheVariants.{Kept}
-use Rattle.fbcheck_serve.specs.{declared.choices.Settings.Settings, declared.fault.AskFault.AskFault, FileMarks.ArePlanMarks, Inputs.label_of, Inputs.with_label}
-use Rattle.fbcheck_serve.specs.declared.fault.AskFault.TheVariants.{Path, NoRoot, NoIdent, UnmarkedBytes, NoSuchTable, OutOfMemory}
+use Rattle.fbcheck_texts.specs.{declared.choices.Settings.Settings, declared.fault.AskFault.AskFault}
+use Rattle.fbcheck_texts.specs.declared.fault.AskFault.TheVariants.{Path, NoRoot, NoIdent, UnmarkedBytes, NoSuchTable, OutOfMemory}
+use Rattle.fbcheck_serve.specs.{FileMarks.ArePlanMarks, Inputs.label_of, Inputs.with_label}
 
 -- the root table: the listed one of the name that is asked for, or else the schema's own
 abbrev pub root_of : Rows → Option (List ℕ) → Option ℕ → Option ℕ

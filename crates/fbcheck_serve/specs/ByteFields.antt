@@ -4,7 +4,7 @@ use Rattle.std.specs.List.{list_any}
 use Rattle.fb_schema.specs.Rows.{Rows}
 use Rattle.fb_bfbs.specs.{ByteFields.HasUnmarked, Marks.Marked, declared.marks.Builtins.Builtins}
 use Rattle.fb_strict.specs.Holding.{is_lost}
-use Rattle.fbcheck_serve.specs.declared.fault.AskFault.{AskFault, TheVariants.NoSuchTable, TheVariants.OutOfMemory, TheVariants.UnmarkedBytes}
+use Rattle.fbcheck_texts.specs.declared.fault.AskFault.{AskFault, TheVariants.NoSuchTable, TheVariants.OutOfMemory, TheVariants.UnmarkedBytes}
 
 -- some mark of a field of bytes names no table
 abbrev pub has_lost : Rows → List Marked → Bool

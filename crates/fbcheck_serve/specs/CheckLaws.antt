@@ -4,8 +4,8 @@ use Rattle.std.specs.{List.AllByRecursion, Borrow.Bor}
 use Rattle.fb_access.specs.{Resolving.Resolves, declared.step.Step.Step}
 use Rattle.fb_run.specs.Job.{Job}
 use Rattle.fb_schema.specs.Rows.{Rows}
-use Rattle.fbcheck_serve.specs.{Checking.Asks, Names.last_name, Names.listed_name, Names.listed_names, Given.steps_in, declared.choices.Settings.Settings}
-use Rattle.fbcheck_serve.specs.declared.fault.AskFault.{AskFault}
+use Rattle.fbcheck_texts.specs.{Given.steps_in, declared.choices.Settings.Settings, declared.fault.AskFault.AskFault}
+use Rattle.fbcheck_serve.specs.{Checking.Asks, Names.last_name, Names.listed_name, Names.listed_names}
 
 -- a schema file and the settings ask at most one thing
 abbrev pub AsksOnce : Type 0

@@ -6,14 +6,15 @@ use Rattle.fb_bfbs.specs.{Fixed.fixed, Loads.IsLoaded, Loads.IsLoadFault, Loads.
 use Rattle.fb_bfbs.specs.declared.load_fault.LoadFault.TheVariants as load
 use Rattle.fb_bfbs.specs.{LoadLaws.ident_bytes, ByteFields.HasUnmarked, Marks.AreMarks, Marks.Marked, Marks.marked, declared.marks.Builtins.Builtins, declared.marks.Marks.Marks}
 use Rattle.fb_strict.specs.Planned.{IsPlan, Planned}
+use Rattle.fbcheck_texts.specs.declared.choices.Settings.{Settings}
+use Rattle.fbcheck_texts.specs.declared.fault.{AskFault.AskFault, CheckFault.CheckFault, AskFault.TheVariants.Load, AskFault.TheVariants.Path, AskFault.TheVariants.UnmarkedBytes}
+use Rattle.fbcheck_texts.specs.declared.{fault.AskFault.TheVariants.NoSuchTable, fault.AskFault.TheVariants.OutOfMemory, hint.Unasked.Unasked}
 use Rattle.fbcheck_serve.specs.{ByteFields.AreTold, ByteFields.LacksTable, ByteFields.Misses, FileMarks.IsMarkedFile, FileMarks.schema_limits, Asked.AsksBy, Asked.IsPathFault}
 use Rattle.fbcheck_serve.specs.{Asked.Own, Asked.demanded_by, Heads.IsHeaded, Heads.RunsBehindHead, Heads.ServesBehindHead, Lists.AreNamed, Names.Named, Names.all_named}
-use Rattle.fbcheck_serve.specs.{Inputs.Folder, Inputs.IsPromptAmong, Inputs.IsPromptOver, Inputs.MayReadEach, Inputs.Seen, declared.choices.Settings.Settings}
-use Rattle.fbcheck_serve.specs.declared.fault.{AskFault.AskFault, CheckFault.CheckFault, AskFault.TheVariants.Load, AskFault.TheVariants.Path, AskFault.TheVariants.UnmarkedBytes}
-use Rattle.fbcheck_serve.specs.declared.{fault.AskFault.TheVariants.NoSuchTable, fault.AskFault.TheVariants.OutOfMemory, hint.Unasked.Unasked, inputs.Course.Course}
+use Rattle.fbcheck_serve.specs.{Inputs.Folder, Inputs.IsPromptAmong, Inputs.IsPromptOver, Inputs.MayReadEach, Inputs.Seen, declared.inputs.Course.Course}
 use Rattle.fb_run.specs.{Ends.Ends, Ends.Unwritten, Ends.Writer, Ends.with_rejects, Faults.End, Faults.EndsBeside, Faults.IsUnfailed, Faults.failures_of, Job.Job, Prompt.IsPrompt}
 use Rattle.fb_run.specs.declared.{run.Ran.Ran, tally.Tally.Tally}
-use Rattle.fbcheck_serve.specs.declared.fault.CheckFault.TheVariants as check
+use Rattle.fbcheck_texts.specs.declared.fault.CheckFault.TheVariants as check
 
 -- the root table and the identifier of a schema that was loaded
 abbrev pub own_of : Loaded → Own

@@ -9,12 +9,13 @@ use Rattle.fb_bytes.specs.declared.ends.Sink as sink
 use Rattle.fb_run.specs.declared.input.Input as input
 use Rattle.fb_run.specs.declared.fault.RunFault.TheVariants.{WriteFault, NoteFault, RejectFault, OutOfMemory}
 use Rattle.std.specs.declared.io.ErrorKind.{ErrorKind}
-use Rattle.fbcheck_serve.specs.{Causes.reason_text, FaultJson.IsLineIn, FaultJson.fault_object, FaultJson.hint_object, Hints.IsHint, Hints.IsRunHint, Texts.of_read, Texts.run_text}
-use Rattle.fbcheck_serve.specs.{Texts.stopped_text, Names.Named, Names.is_standard, Names.misnomer_text, Names.wrong_name, declared.fault.FileFault.FileFault}
+use Rattle.fbcheck_texts.specs.{Causes.reason_text, FaultJson.IsLineIn, FaultJson.fault_object, FaultJson.hint_object, Hints.IsHint, Hints.IsRunHint, Texts.of_read, Texts.run_text}
+use Rattle.fbcheck_texts.specs.{Texts.stopped_text, declared.fault.FileFault.FileFault}
+use Rattle.fbcheck_texts.specs.declared.causes.Explains as explains
+use Rattle.fbcheck_texts.specs.declared.fault.FileFault.TheVariants as file
+use Rattle.fbcheck_serve.specs.{Names.Named, Names.is_standard, Names.misnomer_text, Names.wrong_name}
 use Rattle.fbcheck_serve.specs.declared.inputs.{Course.Course, Standard.Standard, Standard.TheVariants.Unread, Standard.TheVariants.Spent, Missed.Missed}
 use Rattle.fbcheck_serve.specs.declared.files.Files as files
-use Rattle.fbcheck_serve.specs.declared.causes.Explains as explains
-use Rattle.fbcheck_serve.specs.declared.fault.FileFault.TheVariants as file
 use Rattle.fbcheck_serve.specs.declared.inputs.Missed.TheVariants as missed
 
 -- the sum of two counts of messages, or the most that is told

@@ -3,8 +3,9 @@ use Rattle.std.specs.Prelude.{◌≡◌, ℕ, IsSome, List, Option, Some, None, 
 use Rattle.std.specs.Borrow.{Bor}
 use Rattle.fb_bytes.specs.declared.ends.Sink as sink
 use Rattle.fb_run.specs.{Ends.Ends, Ends.Writer, Ends.nowhere, Ends.with_rejects, Ends.writer_of, Faults.End, Faults.EndsBeside, declared.run.Ran.Ran, declared.tally.Tally.Tally}
+use Rattle.fbcheck_texts.specs.declared.choices.Settings.{Settings}
 use Rattle.fbcheck_serve.specs.{Checking.IsIdle, Checking.LacksJob, Checking.RunsAsAsked, Checking.ServesAsAsked, Inputs.Folder, Inputs.Seen, Inputs.with_cause, Names.Named}
-use Rattle.fbcheck_serve.specs.declared.{check.Unbegun.Unbegun, inputs.Course.Course, inputs.Passed.Passed, choices.Settings.Settings}
+use Rattle.fbcheck_serve.specs.declared.{check.Unbegun.Unbegun, inputs.Course.Course, inputs.Passed.Passed}
 use Rattle.fbcheck_serve.specs.declared.check.Kept as check
 use Rattle.fbcheck_serve.specs.declared.check.Unbegun.TheVariants as unbegun
 use Rattle.fbcheck_serve.specs.declared.files.Makes as makes

@@ -1,8 +1,9 @@
 -- A list of names, and why there is none.
 use Rattle.std.specs.Prelude.{◌≡◌, ◌⊎◌, ℕ, ◌<◌, ◌≤◌, ◌^◌, if◌then◌else◌, List, [], ◌∷◌, Option, Some, None, Result, Ok, Err, bytes_eq, codes, length, map, option_map, string_bytes}
 use Rattle.std.specs.declared.io.ErrorKind.TheVariants as kind
-use Rattle.fbcheck_serve.specs.{Names.Named, Names.listed_names, Names.word_names, declared.choices.Settings.Settings, declared.fault.FileFault.FileFault}
-use Rattle.fbcheck_serve.specs.declared.fault.FileFault.TheVariants as file
+use Rattle.fbcheck_texts.specs.{declared.choices.Settings.Settings, declared.fault.FileFault.FileFault}
+use Rattle.fbcheck_texts.specs.declared.fault.FileFault.TheVariants as file
+use Rattle.fbcheck_serve.specs.{Names.Named, Names.listed_names, Names.word_names}
 
 -- the file that a list is read from
 abbrev pub list_file : List ℕ → List ℕ

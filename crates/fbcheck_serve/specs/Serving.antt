@@ -5,25 +5,26 @@ use Rattle.fb_bytes.specs.Ends.{one_more}
 use Rattle.fb_rules.specs.Reasons.{reason_count}
 use Rattle.std.specs.{Borrow.Bor, Io.KnownBytes.Appends, Io.KnownBytes.Keeps, declared.io.ErrorKind.ErrorKind}
 use Rattle.clap.specs.{Walk.Text, Faults.fault_of}
-use Rattle.fbcheck_serve.specs.{Checking.IsIdle, Checking.IsPromptOverAsked, Checking.LacksJob, Checking.MayReadAsked, Causes.is_unread, FaultJson.IsLineIn, FaultJson.fault_object}
-use Rattle.fbcheck_serve.specs.{FaultJson.hint_object, Hints.IsHint, Hints.IsRunHint, Faults.HasFileFault, Faults.IsFile, Faults.ask_status, Texts.ask_text, Texts.file_text}
-use Rattle.fbcheck_serve.specs.{Texts.list_text, Texts.run_text, Texts.stopped_text, Texts.unkept_text, Texts.unmade_text, Texts.unsummed_text, Texts.words_text, Lists.AreNamed}
-use Rattle.fbcheck_serve.specs.{Lists.LacksList, Names.Named, Inputs.Folder, Inputs.IsNoted, Inputs.Seen, Inputs.renoted, CommandLine.program, Refusal.Refuses}
-use Rattle.fbcheck_serve.specs.{Refusal.refusal_status, Refusal.refusal_text, Given.AreGiven, Values.text_of, Values.values_of, Keeping.Maker, Keeping.RunsKeeping}
-use Rattle.fbcheck_serve.specs.{Keeping.ServesKeeping, declared.framing.By.By, declared.framing.Manner.Manner, declared.check.Unbegun.Unbegun, declared.choices.Settings.Settings}
-use Rattle.fbcheck_serve.specs.declared.{choices.SettingsFault.SettingsFault, fault.FileFault.FileFault, fault.WordsFault.WordsFault, inputs.Course.Course, stop.Ending.Ending}
+use Rattle.fbcheck_texts.specs.{Causes.is_unread, FaultJson.IsLineIn, FaultJson.fault_object}
+use Rattle.fbcheck_texts.specs.{FaultJson.hint_object, Hints.IsHint, Hints.IsRunHint, Faults.HasFileFault, Faults.IsFile, Faults.ask_status, Texts.ask_text, Texts.file_text}
+use Rattle.fbcheck_texts.specs.{Texts.list_text, Texts.run_text, Texts.stopped_text, Texts.unkept_text, Texts.unmade_text, Texts.unsummed_text, Texts.words_text, CommandLine.program, Refusal.Refuses}
+use Rattle.fbcheck_texts.specs.{Refusal.refusal_status, Refusal.refusal_text, Given.AreGiven, Values.text_of, Values.values_of}
+use Rattle.fbcheck_texts.specs.declared.{framing.By.By, framing.Manner.Manner, choices.Settings.Settings, choices.SettingsFault.SettingsFault, fault.FileFault.FileFault, fault.WordsFault.WordsFault}
+use Rattle.fbcheck_texts.specs.declared.causes.Causes.{Causes}
+use Rattle.fbcheck_serve.specs.{Checking.IsIdle, Checking.IsPromptOverAsked, Checking.LacksJob, Checking.MayReadAsked, Lists.AreNamed}
+use Rattle.fbcheck_serve.specs.{Lists.LacksList, Names.Named, Inputs.Folder, Inputs.IsNoted, Inputs.Seen, Inputs.renoted, Keeping.Maker, Keeping.RunsKeeping}
+use Rattle.fbcheck_serve.specs.{Keeping.ServesKeeping, declared.check.Unbegun.Unbegun, declared.inputs.Course.Course, declared.stop.Ending.Ending}
 use Rattle.fbcheck_serve.specs.declared.stop.{Ending.TheVariants.Helped, Ending.TheVariants.Checked, Ending.TheVariants.Passed, EarlyEnd.EarlyEnd, Sums.Sums}
-use Rattle.fbcheck_serve.specs.declared.causes.Causes.{Causes}
 use Rattle.fb_run.specs.{AllTold.WritesFront, Ends.Ends, Ends.Writer, Ends.with_notes, Faults.End, Faults.EndsBeside, Faults.IsUnfailed, Faults.failures_of, Faults.status_of}
 use Rattle.fb_run.specs.{JsonSums.summary_in, declared.run.Ran.Ran, declared.fault.RunFault.TheVariants.WriteFault, declared.fault.RunFault.TheVariants.RejectFault}
 use Rattle.fb_run.specs.declared.{options.LineForm.LineForm, options.LineForm.TheVariants.Plain, tally.Tally.Tally}
+use Rattle.fbcheck_texts.specs.declared.choices.SettingsFault.TheVariants as refusal
+use Rattle.fbcheck_texts.specs.declared.fault.FileFault.TheVariants as file_fault
+use Rattle.fbcheck_texts.specs.declared.fault.WordsFault.TheVariants as words_fault
 use Rattle.fbcheck_serve.specs.declared.check.Kept as check
 use Rattle.fbcheck_serve.specs.declared.check.Unbegun.TheVariants as unbegun
-use Rattle.fbcheck_serve.specs.declared.choices.SettingsFault.TheVariants as refusal
-use Rattle.fbcheck_serve.specs.declared.fault.FileFault.TheVariants as file_fault
 use Rattle.fbcheck_serve.specs.declared.inputs.Passed as inputs
 use Rattle.fbcheck_serve.specs.declared.stop.EarlyEnd.TheVariants as stop
-use Rattle.fbcheck_serve.specs.declared.fault.WordsFault.TheVariants as words_fault
 
 -- the words as texts, where they could be read
 abbrev pub words_of : {A B : Type 0} → Result (Vec (String A) B) WordsFault → Result (List Text) WordsFault

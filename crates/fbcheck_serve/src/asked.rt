@@ -3,17 +3,13 @@
 ghost use Rattle.std.specs.Prelude.{ℕ, Option, IfOk, IfErr, IfSome, IsTrue, Ok, ◌≡◌, length, map, option_map, string_bytes};
 ghost use Rattle.fb_schema.specs.{Rows.is_table, declared.kinds.Kind.TheVariants.Table};
 ghost use Rattle.fb_bfbs.specs.LoadLaws.{ident_bytes};
+ghost use Rattle.fbcheck_texts.specs.{Ranges.AreInRange, declared.choices.Settings.Settings};
 ghost use Rattle.fbcheck_serve.specs.Asked.{ArePaths, IsPath, PathFails, asked_ident, ident_of, options_of, rejects_of, root_of};
 ghost use Rattle.fbcheck_serve.specs.{Checking.Asks, Checking.IsPathless, Checking.IsSchema, Checking.LacksJob, Checking.LacksSchema, Checking.own_of, Heads.head_of};
-ghost use Rattle.fbcheck_serve.specs.{Ranges.AreInRange, declared.choices.Settings.Settings};
 ghost use Rattle.fb_run.specs.Job.{PathsFit, Serves, job_of};
 ghost use Rattle.fb_access.specs.Fitting.{StepsFit};
 
-use crate::choices::Settings;
-use crate::fault::AskFault;
-use crate::framing::{By, Framing, Manner};
 use crate::head::head_of;
-use crate::hint::{Unasked, path_hint, root_hint, schema_hint};
 use crate::inputs::label;
 use crate::limits::schema_limits;
 use crate::names::{Name, STANDARD};
@@ -24,6 +20,10 @@ use fb_run::{AskedPath, Options, Rejects};
 use fb_schema::Schema;
 use fb_strict::Plan;
 use fb_verify::Ident;
+use fbcheck_texts::choices::Settings;
+use fbcheck_texts::fault::AskFault;
+use fbcheck_texts::framing::{By, Framing, Manner};
+use fbcheck_texts::hint::{Unasked, path_hint, root_hint, schema_hint};
 use std::alloc::Global;
 
 /// The number of the table `reflection.Schema` in the fixed table (reflection.fbs).

@@ -3,12 +3,13 @@
 ghost use Rattle.std.specs.Prelude.{IfErr, OnOk, true, ◌≡◌, ◌⊎◌, ◌<◌, length, map};
 ghost use Rattle.fb_bfbs.specs.{ByteFields.HasUnmarked, Marks.marked};
 ghost use Rattle.fb_strict.specs.Holding.{has_bytes};
-ghost use Rattle.fbcheck_serve.specs.{ByteFields.Misses, declared.fault.AskFault.TheVariants.NoSuchTable, declared.fault.AskFault.TheVariants.OutOfMemory};
+ghost use Rattle.fbcheck_texts.specs.{declared.fault.AskFault.TheVariants.NoSuchTable, declared.fault.AskFault.TheVariants.OutOfMemory};
+ghost use Rattle.fbcheck_serve.specs.ByteFields.{Misses};
 
-use crate::fault::AskFault;
-use crate::hint::{Unasked, bytes_hint};
 use fb_bfbs::{ByteField, Marks, bytes_at, find_unmarked};
 use fb_schema::Schema;
+use fbcheck_texts::fault::AskFault;
+use fbcheck_texts::hint::{Unasked, bytes_hint};
 use std::alloc::Global;
 
 /// A fault with the names of a field of bytes and of its table.

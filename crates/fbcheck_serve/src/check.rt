@@ -2,7 +2,8 @@
 
 ghost use Rattle.std.specs.Prelude.{Err, IfErr, IfOk, OnErr, [], length, ◌≡◌, ◌⊎◌, ◌+◌, ◌<◌, ◌≤◌, ◌^◌};
 ghost use Rattle.fb_rules.specs.Reasons.{reason_count};
-ghost use Rattle.fbcheck_serve.specs.{Ranges.AreInRange, Checking.EndsChecked, Checking.IsChecked, Checking.IsCheckedBeside, Checking.IsPromptAmongAsked};
+ghost use Rattle.fbcheck_texts.specs.Ranges.{AreInRange};
+ghost use Rattle.fbcheck_serve.specs.{Checking.EndsChecked, Checking.IsChecked, Checking.IsCheckedBeside, Checking.IsPromptAmongAsked};
 ghost use Rattle.fbcheck_serve.specs.Checking.{IsPromptAmongHeaded, IsPromptAsAsked, IsPromptHeaded, IsUnasked, MayReadHeaded, MayReadNamed};
 ghost use Rattle.fbcheck_serve.specs.{Heads.RunsBehindHead, Heads.ServesBehindHead, Heads.head_of, Keeping.IsCheckedKeeping, Keeping.IsServedKeeping, Keeping.maker_of};
 ghost use Rattle.fbcheck_serve.specs.{Inputs.all_seen, Inputs.folder_of, Inputs.seen_of, declared.check.Unbegun.TheVariants.Ask};
@@ -10,16 +11,16 @@ ghost use Rattle.fb_run.specs.{Faults.EndsBeside, Job.Serves, Job.job_of, Leave.
 ghost use Rattle.fb_run.specs.declared.fault.RunFault.TheVariants.{TooManyTurns};
 
 use crate::asked::{Asked, asked_of};
-use crate::causes::Explains;
-use crate::choices::Settings;
-use crate::fault::CheckFault;
 use crate::files::{Files, Makes};
 use crate::head::{with_head, write_head};
-use crate::hint::Unasked;
 use crate::inputs::{Passed, pass_files};
 use crate::names::Name;
 use fb_bytes::Sink;
 use fb_run::{Input, MOST_TURNS, Nowhere, Ran, Tally, run_keeping};
+use fbcheck_texts::causes::Explains;
+use fbcheck_texts::choices::Settings;
+use fbcheck_texts::fault::CheckFault;
+use fbcheck_texts::hint::Unasked;
 use std::alloc::Global;
 use std::io::ErrorKind;
 

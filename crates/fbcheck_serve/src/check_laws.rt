@@ -1,8 +1,9 @@
 //! What follows from the definitions of what is asked, of files one behind another and of texts alone. These functions
 //! have no body: their contracts are the theorems.
 
+ghost use Rattle.fbcheck_texts.specs.TextTests.{AskTexts, LoadTexts, RunTexts};
 ghost use Rattle.fbcheck_serve.specs.{CheckLaws.AreStepsAsWritten, CheckLaws.AreNamesAsWritten, CheckLaws.AsksOnce, InputTests.Courses, InputTests.Finals, InputTests.Labels};
-ghost use Rattle.fbcheck_serve.specs.{InputTests.Listed, TextTests.AskTexts, TextTests.LoadTexts, TextTests.RunTexts, TextTests.StopTexts};
+ghost use Rattle.fbcheck_serve.specs.{InputTests.Listed, StopTests.StopTexts};
 
 /// A schema file, or none, and the settings ask at most one thing: that the buffers are checked by one job, or that
 /// nothing is checked, for one cause: the file gives no schema, there is no root table, the
@@ -37,7 +38,7 @@ pub fn files()
 {}
 
 /// The texts of faults, by example.
-#[tactic(auto, using(crate::proofs::ShownTexts::run_texts_shown, crate::proofs::ShownTexts::load_texts_shown, crate::proofs::ShownTexts::ask_texts_shown, crate::proofs::ShownTexts::stop_texts_shown))]
+#[tactic(auto, using(fbcheck_texts::proofs::ShownTexts::run_texts_shown, fbcheck_texts::proofs::ShownTexts::load_texts_shown, fbcheck_texts::proofs::ShownTexts::ask_texts_shown, crate::proofs::ShownStops::stop_texts_shown))]
 pub fn fault_texts()
     ensures run { RunTexts }
     ensures load { LoadTexts }

@@ -1,13 +1,14 @@
 //! Where the bytes of a schema file come from, and those of files that are inputs.
 
 ghost use Rattle.std.specs.Prelude.{◌≡◌, IfOk, IfErr, IfSome, Ok, Err, ℕ, List, Option, Result, false, option_map, string_bytes, vec_items};
-ghost use Rattle.fbcheck_serve.specs.{Faults.HasFileFault, Faults.IsFile, Lists.HasListFault, Lists.IsList, Lists.list_file, declared.fault.FileFault.FileFault};
+ghost use Rattle.fbcheck_texts.specs.{Faults.HasFileFault, Faults.IsFile, declared.fault.FileFault.FileFault};
+ghost use Rattle.fbcheck_serve.specs.{Lists.HasListFault, Lists.IsList, Lists.list_file};
 
-use crate::causes::Explains;
-use crate::fault::FileFault;
 use crate::names::STANDARD;
 use fb_bytes::Sink;
 use fb_run::Input;
+use fbcheck_texts::causes::Explains;
+use fbcheck_texts::fault::FileFault;
 use std::io::ErrorKind;
 
 /// Files that are read by their names, beside a writer and notes of these types.

@@ -3,14 +3,15 @@
 ghost use Rattle.std.specs.Prelude.{IfErr, IfOk, ◌≡◌};
 ghost use Rattle.fb_schema.specs.Rows.{Rows};
 ghost use Rattle.fb_run.specs.{Ends.writer_of, Job.job_of};
-ghost use Rattle.fbcheck_serve.specs.{Heads.IsHeadPut, Heads.head_of, Heads.with_head, declared.fault.AskFault.TheVariants.OutOfMemory};
+ghost use Rattle.fbcheck_texts.specs.declared.fault.AskFault.TheVariants.{OutOfMemory};
+ghost use Rattle.fbcheck_serve.specs.{Heads.IsHeadPut, Heads.head_of, Heads.with_head};
 
-use crate::fault::AskFault;
-use crate::hint::Unasked;
 use crate::inputs::are_named;
 use crate::names::Name;
 use fb_bytes::Sink;
 use fb_run::{Options, RunFault, push_all, put_head};
+use fbcheck_texts::fault::AskFault;
+use fbcheck_texts::hint::Unasked;
 use std::alloc::Global;
 
 /// What these options have written above all else, over the files of these names: the head of a table, where they ask

@@ -3,19 +3,15 @@
 ghost use Rattle.std.specs.Prelude.{Err, IfOk, IfSome, OnErr, OnOk, true, false, ◌≡◌, ◌≢◌, ◌⊎◌, ◌+◌, ◌<◌, ◌≤◌, ◌^◌, length, map, option_map, string_bytes, vec_items};
 ghost use Rattle.fb_rules.specs.Reasons.{reason_count};
 ghost use Rattle.fb_run.specs.{Ends.all_outs, Ends.writer_of, Job.Serves, Job.job_of, Leave.HasLeave, Leave.all_ends, Prompt.IsPrompt};
+ghost use Rattle.fbcheck_texts.specs.Hints.{IsHint};
 ghost use Rattle.fbcheck_serve.specs.Inputs.{ComesOf, IsBehind, IsBehindEnd, IsBehindRun, IsFaultLine, IsHintLine, IsStopOf, IsPromptAmong, MayRead, MayReadEach, ServesEach, TellsFault};
 ghost use Rattle.fbcheck_serve.specs.Inputs.{Tries, at_first, course_with, fault_line, no_course, folder_of, is_final, all_seen, label_of, stand, standard_after, sum_of, sums, are_named};
-ghost use Rattle.fbcheck_serve.specs.{Names.is_standard, Hints.IsHint};
+ghost use Rattle.fbcheck_serve.specs.Names.{is_standard};
 ghost use Rattle.fbcheck_serve.specs.declared.inputs.Standard.TheVariants.{Unread, Spent};
 
-use crate::causes::{Causes, Explains, reason};
-use crate::fault::FileFault;
-use crate::fault_json::{fault_object, hint_object};
 use crate::files::Files;
-use crate::framing::{By, Framing, end_hint, run_hint};
 use crate::names::{Misnomer, Name};
 use crate::stop::note;
-use crate::texts::{run_text, stopped_text};
 use fb_bytes::Sink;
 use fb_run::{
     Input, LineForm, MOST_TURNS, Options, Ran, RunFault, Tally, push_all, put_bytes, run_keeping,
@@ -23,6 +19,11 @@ use fb_run::{
 };
 use fb_schema::Schema;
 use fb_verify::REASONS;
+use fbcheck_texts::causes::{Causes, Explains, reason};
+use fbcheck_texts::fault::FileFault;
+use fbcheck_texts::fault_json::{fault_object, hint_object};
+use fbcheck_texts::framing::{By, Framing, end_hint, run_hint};
+use fbcheck_texts::texts::{run_text, stopped_text};
 use std::alloc::{AllocError, Global};
 use std::io::ErrorKind;
 

@@ -6,31 +6,21 @@
 
 mod asked;
 mod byte_fields;
-mod causes;
 pub mod check;
 pub mod check_laws;
-mod choices;
-mod command;
-mod fault;
-mod fault_json;
 mod files;
-mod framing;
 mod head;
-mod hint;
 mod inputs;
 mod limits;
 mod names;
 pub mod serve;
 mod stop;
 mod strict;
-mod texts;
-mod unsupported;
-mod words;
 
-pub use causes::{Explained, Explains};
-pub use choices::{Settings, SettingsFault};
-pub use fault::{AskFault, CheckFault, FileFault, WordsFault, WrongWord};
+pub use fbcheck_texts::causes::{Explained, Explains};
+pub use fbcheck_texts::choices::{Settings, SettingsFault};
+pub use fbcheck_texts::fault::{AskFault, CheckFault, FileFault, WordsFault, WrongWord};
+pub use fbcheck_texts::hint::Unasked;
+pub use fbcheck_texts::words::settings;
 pub use files::{Files, Makes};
-pub use hint::Unasked;
 pub use inputs::{Course, Passed, Standard};
-pub use words::settings;

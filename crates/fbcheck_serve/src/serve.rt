@@ -6,19 +6,19 @@ ghost use Rattle.fbcheck_serve.specs.{Inputs.folder_of, Inputs.seen_of, Keeping.
 ghost use Rattle.fbcheck_serve.specs.Serving.{EndsRun, EndsSo, IsPromptAsGiven, IsServed, MayReadAsGiven, Rests, TellsAsGiven, Unserved, summed, words_of};
 
 use crate::asked::{by, manner};
-use crate::causes::{Causes, Explains};
 use crate::check::{Kept, Unbegun, check_files, check_keeping};
-use crate::choices::{Settings, SettingsFault};
-use crate::fault::WordsFault;
 use crate::files::{Files, Makes, read_list, read_schema};
-use crate::hint::{file_hint, words_hint};
 use crate::inputs::Passed;
 use crate::names::{Name, listed_names, word_names};
 use crate::stop::{EarlyEnd, Ending, Sums, exit_status, sum_up, tell};
-use crate::words::settings;
 use clap::Error;
 use fb_bytes::Sink;
 use fb_run::{Input, LineForm, MOST_TURNS, Ran, RunFault, Tally, push_all};
+use fbcheck_texts::causes::{Causes, Explains};
+use fbcheck_texts::choices::{Settings, SettingsFault};
+use fbcheck_texts::fault::WordsFault;
+use fbcheck_texts::hint::{file_hint, words_hint};
+use fbcheck_texts::words::settings;
 use std::alloc::{AllocError, Global};
 
 /// Does what the words ask, the program's name first, and answers the exit status: reads the schema file that they

@@ -3,27 +3,28 @@
 ghost use Rattle.std.specs.Prelude.{Err, IfSome, List, None, ℕ, ◌≡◌, ◌++◌, ◌+◌, ◌<◌, ◌≤◌, ◌^◌, codes, length};
 ghost use Rattle.fb_rules.specs.Reasons.{reason_count};
 ghost use Rattle.fb_run.specs.Ends.{writer_of};
+ghost use Rattle.fbcheck_texts.specs.Hints.{IsHint};
+ghost use Rattle.fbcheck_texts.specs.declared.choices.SettingsFault.TheVariants as refusal;
 ghost use Rattle.fbcheck_serve.specs.{Inputs.IsNoted, Serving.Complains, Serving.IsBehindEnding, Serving.IsBehindStop, Serving.IsHintBehind, Serving.IsStopTold, Serving.IsEndLine};
 ghost use Rattle.fbcheck_serve.specs.Serving.{SumsUp, exit_status, is_quiet, is_unwritten, stop_status, stop_text, unbegun_stop};
-ghost use Rattle.fbcheck_serve.specs.{Hints.IsHint, declared.stop.Ending.TheVariants.Helped};
-ghost use Rattle.fbcheck_serve.specs.declared.choices.SettingsFault.TheVariants as refusal;
+ghost use Rattle.fbcheck_serve.specs.declared.stop.Ending.TheVariants.{Helped};
 ghost use Rattle.fbcheck_serve.specs.declared.stop.EarlyEnd.TheVariants as stop;
 
-use crate::causes::Causes;
 use crate::check::Unbegun;
-use crate::choices::SettingsFault;
-use crate::fault::{FileFault, WordsFault};
-use crate::fault_json::{fault_object, hint_object};
-use crate::framing::{By, Manner, by_hint, end_hint, run_hint};
-use crate::hint::{Hint, Unasked};
 use crate::inputs::Course;
-use crate::texts::{
-    ask_text, failed_write, file_text, list_text, run_text, stopped_text, unkept_text, unmade_text,
-    unsummed_text, words_text,
-};
 use fb_bytes::Sink;
 use fb_run::summary::summary;
 use fb_run::{Line, LineForm, RunFault, Tally, push_all, status};
+use fbcheck_texts::causes::Causes;
+use fbcheck_texts::choices::SettingsFault;
+use fbcheck_texts::fault::{FileFault, WordsFault};
+use fbcheck_texts::fault_json::{fault_object, hint_object};
+use fbcheck_texts::framing::{By, Manner, by_hint, end_hint, run_hint};
+use fbcheck_texts::hint::{Hint, Unasked};
+use fbcheck_texts::texts::{
+    ask_text, failed_write, file_text, list_text, run_text, stopped_text, unkept_text, unmade_text,
+    unsummed_text, words_text,
+};
 use std::alloc::{AllocError, Global};
 use std::io::ErrorKind;
 

@@ -3,18 +3,18 @@
 ghost use Rattle.std.specs.Prelude.{IfErr, IfOk, OnOk, false, true, ◌≡◌, length, map};
 ghost use Rattle.fb_bfbs.specs.{Loads.IsLoaded, Marks.AreMarks, declared.loading.Loaded.Loaded, Marks.marked};
 ghost use Rattle.fb_strict.specs.{Demanded.demanded as holding, Holding.holdings_if, Planned.IsPlan};
+ghost use Rattle.fbcheck_texts.specs.declared.fault.AskFault.TheVariants.{OutOfMemory};
 ghost use Rattle.fbcheck_serve.specs.{Asked.IsAskedPlan, Asked.Own, Asked.demanded, Asked.is_demanding, ByteFields.LacksPlan, ByteFields.has_lost, Checking.IsPlanBy};
 ghost use Rattle.fbcheck_serve.specs.{Checking.IsPlanless, Checking.IsSchema, Checking.LacksPlanBy, Checking.MayAsk, FileMarks.schema_limits};
-ghost use Rattle.fbcheck_serve.specs.declared.fault.AskFault.TheVariants.{OutOfMemory};
 
 use crate::byte_fields::{lost, test_marks};
-use crate::choices::Settings;
-use crate::fault::AskFault;
-use crate::hint::Unasked;
 use crate::limits::schema_limits;
 use fb_bfbs::{LoadFault, Mark, Marks, load_marks};
 use fb_schema::Schema;
 use fb_strict::{Demands, Plan, PlanFault};
+use fbcheck_texts::choices::Settings;
+use fbcheck_texts::fault::AskFault;
+use fbcheck_texts::hint::Unasked;
 use std::alloc::Global;
 
 /// The marks of a schema file that was loaded. An error comes only where memory is refused.

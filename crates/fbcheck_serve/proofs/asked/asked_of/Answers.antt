@@ -1,6 +1,6 @@
 use Rattle.std.proofs.Common.{List, Option, ap, ℕ, rules, subst, sym, ◌∙◌}
+use Rattle.fbcheck_texts.specs.declared.{fault.AskFault.TheVariants.NoRoot}
 use Rattle.fbcheck_serve.specs.{Asked.IsFound, Asked.LacksIdent, Asked.options_of, Inputs.label_of, Inputs.with_label, Checking.LacksJob, Checking.own_of}
-use Rattle.fbcheck_serve.specs.declared.{fault.AskFault.TheVariants.NoRoot}
 use Rattle.fb_run.specs.Job.{Serves, job_of}
 use Rattle.fb_run.proofs.RunLemmas.{err_is}
 use Rattle.fbcheck_serve.proofs.{AskedLemmas.path_untold, AskedLemmas.planless_untold, AskedLemmas.planned, ByteLemmas.hinted}

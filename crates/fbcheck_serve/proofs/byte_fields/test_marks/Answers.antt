@@ -2,7 +2,8 @@ use Rattle.std.proofs.Common.{map}
 use Rattle.fb_bfbs.specs.{ByteFields.is_unmarked, Marks.marked}
 use Rattle.fb_bfbs.proofs.ByteLemmas.{field_within}
 use Rattle.fb_schema.specs.Live.{live_of_view}
-use Rattle.fbcheck_serve.specs.{ByteFields.Misses, declared.fault.AskFault.TheVariants.UnmarkedBytes}
+use Rattle.fbcheck_texts.specs.declared.fault.AskFault.TheVariants.{UnmarkedBytes}
+use Rattle.fbcheck_serve.specs.ByteFields.{Misses}
 use Rattle.fbcheck_serve.proofs.ByteLemmas.{either}
 use Rattle.fbcheck_serve.proofs.byte_fields.test_marks.Goals as goal
 

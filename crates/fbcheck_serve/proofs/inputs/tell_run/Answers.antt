@@ -1,5 +1,5 @@
 use Rattle.std.proofs.Common.{◌∙◌, ap, sym}
-use Rattle.fbcheck_serve.specs.{Texts.run_text, declared.causes.Causes.Causes}
+use Rattle.fbcheck_texts.specs.{Texts.run_text, declared.causes.Causes.Causes}
 use Rattle.fbcheck_serve.proofs.inputs.tell_run.Goals as goal
 
 pub returns : goal.returns

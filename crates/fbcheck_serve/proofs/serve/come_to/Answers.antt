@@ -2,8 +2,8 @@ use Rattle.std.proofs.Common.{Err, None, refl, true}
 use Rattle.std.specs.Prelude.{map, string_bytes}
 use Rattle.fb_run.specs.{Ends.writer_of, Leave.ends_of}
 use Rattle.fb_run.proofs.RunLemmas.{err_is}
+use Rattle.fbcheck_texts.specs.declared.choices.SettingsFault.TheVariants as refusal
 use Rattle.fbcheck_serve.proofs.AskedLemmas.{idle}
-use Rattle.fbcheck_serve.specs.declared.choices.SettingsFault.TheVariants as refusal
 use Rattle.fbcheck_serve.proofs.ServingLemmas.{comes_files, comes_given, comes_run, comes_unserved, early, files_rests, holds_given, may_read, nameless, prompt_alone, prompt_among, run_rests, same_ends, told_as_lines, told_plainly}
 use Rattle.fbcheck_serve.specs.{Inputs.folder_of, Inputs.seen_of, Keeping.maker_of}
 use Rattle.fbcheck_serve.proofs.serve.come_to.Goals as goal

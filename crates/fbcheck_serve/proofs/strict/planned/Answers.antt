@@ -1,6 +1,7 @@
 use Rattle.std.proofs.Common.{map}
 use Rattle.fb_bfbs.specs.Marks.{marked}
-use Rattle.fbcheck_serve.specs.{ByteFields.LacksPlan, declared.fault.AskFault.TheVariants.NoSuchTable}
+use Rattle.fbcheck_texts.specs.declared.fault.AskFault.TheVariants.{NoSuchTable}
+use Rattle.fbcheck_serve.specs.ByteFields.{LacksPlan}
 use Rattle.fbcheck_serve.proofs.ByteLemmas.{any_lost, either}
 use Rattle.fbcheck_serve.proofs.strict.planned.Goals as goal
 

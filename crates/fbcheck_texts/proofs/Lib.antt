@@ -1,0 +1,7 @@
+mod DefaultLemmas
+mod HintLemmas
+mod ProgramLemmas
+mod TextLemmas
+mod WordsLemmas
+pub mod FaultJsonLemmas
+pub mod ShownTexts
