@@ -1,4 +1,4 @@
-use Rattle.std.proofs.Common.{◌∙◌, refl}
+use Rattle.std.proofs.Common.{◌∙◌, refl, rules}
 use Rattle.std.specs.Float.{binary32, binary64}
 use Rattle.fb_access.specs.Denotes.{float}
 use Rattle.fb_run.proofs.{CsvLemmas.real_written, RealLemmas.eight_bytes_read, RealLemmas.four_bytes_read}
@@ -27,3 +27,6 @@ returns-in-8 g c =
       ),
       put,
     )
+
+pub returns-in-DefaultDouble : goal.returns-in-DefaultDouble
+returns-in-DefaultDouble g c = search rules

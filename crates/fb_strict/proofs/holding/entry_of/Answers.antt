@@ -1,0 +1,5 @@
+use Rattle.std.proofs.Common.{rules}
+use Rattle.fb_strict.proofs.holding.entry_of.Goals as goal
+
+pub returns : goal.returns
+returns c = search rules
