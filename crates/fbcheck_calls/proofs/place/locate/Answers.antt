@@ -20,3 +20,6 @@ returns-clause-told c =
         rw w.text-is (rw w.written-is (located_by _ _ _ 64 c.in-Schema.is (levels_taken _ c.take.result c.args.handle.now.inside c.take.ensures.taken c.in-Some.taken c.deref_mut-inside.result.now _ c.in-Some.is c.deref_mut-inside.ensures.value w.in-Schema-inside.is) c.args.options.now c.args.buffer.now t.0 c.args.text.now w.locate_shallow-status.new.text w.locate_shallow-status.new.written t.2)),
       ))
     ]
+
+pub returns-clause-kept : goal.returns-clause-kept
+returns-clause-kept c = search rules
