@@ -1,5 +1,5 @@
-//! What the program reads of its command line, and what it tells of faults, to the end of their lines: their texts, the
-//! hints behind them, and both as JSON. What is done of it, and in which order, stands in the program.
+//! The words of the command line, the texts of errors and the hints after them, as lines and as JSON. `fbcheck_serve`
+//! says when each is read or written.
 #![tactic(auto)]
 
 pub mod causes;
