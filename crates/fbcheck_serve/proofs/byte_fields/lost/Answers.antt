@@ -1,4 +1,4 @@
-use Rattle.std.proofs.Common.{arith}
+use Rattle.std.proofs.Common.{arith, rules}
 use Rattle.fb_strict.proofs.Holds.{bytes_stand, bytes_within}
 use Rattle.fbcheck_serve.proofs.byte_fields.lost.Goals as goal
 
@@ -7,3 +7,6 @@ unreachable-requires c = bytes_stand c.args.schema.now c.args.table c.args.slot 
 
 pub unasked-requires : goal.unasked-requires
 unasked-requires c = let within = bytes_within c.args.schema.now c.args.table c.args.slot c.requires in omega (arith, c.in-Some.ensures.some.1, within)
+
+pub returns : goal.returns
+returns c = search rules
