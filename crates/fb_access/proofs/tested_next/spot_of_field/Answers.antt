@@ -1,5 +1,4 @@
-use Rattle.fb_access.specs.Tested.{IsTested}
-use Rattle.std.proofs.Common.{sym, arith, rules}
+use Rattle.std.proofs.Common.{sym, arith}
 use Rattle.fb_access.proofs.{Held.at_table, Staying.part_begins, Tested.changed, Tested.field_fails, Tested.struct_tested}
 use Rattle.fb_access.proofs.tested_next.spot_of_field.Goals as goal
 
@@ -13,11 +12,3 @@ overflow_add-place c =
     let part = c.in-Some-part_at.part in
     let begins = part_begins c.args.window.now c.args.schema.now _ part part.kind (c.lawful.ensures.served.parts _ _ part (sym (rw c.in-Some-part_at.is at c.part_at.ensures))) in
     omega (arith, h.within, begins, c.requires.short, c.from-in-Some-part_at.ensures)
-
-pub returns-in-None : goal.returns-in-None
-unfolding IsTested
-returns-in-None c = search rules
-
-pub returns-in_ok-spot_of-in-Some : goal.returns-in_ok-spot_of-in-Some
-unfolding IsTested
-returns-in_ok-spot_of-in-Some c = search rules
